@@ -6,7 +6,7 @@ use Rattle.std.proofs.lemmas.List.Elements.{All-from_recursion}
 use Rattle.fx_designs.specs.Galois.{prime_of, degree_of, reduction_of, add, mul, neg, inv}
 use Rattle.fx_designs.specs.Vectors.{IsVector}
 use Rattle.fx_designs.specs.Runs.{runs_of, is_constant, is_balanced, are_blocks_even, is_balanced_in_blocks}
-use Rattle.fx_designs.specs.Problems.{Dimensions, AtResolution}
+use Rattle.fx_designs.specs.Problems.{Dimensions}
 use Rattle.fx_designs.specs.Demands.{must_balance, is_estimated}
 use Rattle.fx_designs.specs.Matrices.{IsRuleMatrix, NoneMeets}
 use Rattle.fx_designs.specs.Outcomes.{Design, NoDesign}

@@ -1,6 +1,6 @@
 -- Files that lie one after another in one buffer: what a file begun, given bytes or ended does to their list.
 use Rattle.std.proofs.Common.{ℕ, ◌≡◌, ◌≤◌, ◌<◌, ◌+◌, ◌-◌, ◌++◌, true, false, length, List, [], ◌∷◌, map, take, drop}
-use Rattle.std.proofs.Common.{get_or, zero, suc, Some, slice_get, option_map, refl, sym, ◌∙◌, ap, ap₂, subst, arith}
+use Rattle.std.proofs.Common.{get_or, zero, suc, Some, slice_get, refl, sym, ◌∙◌, ap, ap₂, subst, arith}
 use Rattle.std.proofs.Common.{length-drop, length-append}
 use Rattle.std.proofs.lemmas.List.{take_all, take-append-le, drop-append-le, map-append}
 use Rattle.std.proofs.Math.Seq.{drop-append_seam}
@@ -44,8 +44,7 @@ part_of_more : (buffer more : List ℕ) (from to : ℕ) → from ≤ to → to �
     → take (to - from) (drop from (buffer ++ more)) ≡ take (to - from) (drop from buffer)
 part_of_more buffer more from to order inside =
     let left = length-drop from buffer in
-    ap (take (to - from)) (drop-append-le from buffer more (omega arith))
-    ∙ take-append-le (to - from) (drop from buffer) more (omega arith)
+    cc (drop-append-le from buffer more (omega arith), take-append-le (to - from) (drop from buffer) more (omega arith))
 
 within_more : (buffer more : List ℕ) (b : FileBounds) → IsWithin buffer b → IsWithin (buffer ++ more) b
 within_more buffer more b w = record {
@@ -63,15 +62,16 @@ same_file : (buffer more : List ℕ) (b : FileBounds) → IsWithin buffer b → 
 same_file buffer more b w =
     let content = w.content in
     let end = w.end in
-    ap₂ (λ (n c : List ℕ). record { name = n; content = c; ended = b.ended })
-    (part_of_more buffer more b.name b.content w.name (omega arith))
-    (part_of_more buffer more b.content b.end w.content w.end)
+    cc (
+      part_of_more buffer more b.name b.content w.name (omega arith),
+      part_of_more buffer more b.content b.end w.content w.end,
+    )
 
 same_files : (buffer more : List ℕ) (bounds : List FileBounds) → AllWithin buffer bounds
     → map (file_at (buffer ++ more)) bounds ≡ map (file_at buffer) bounds
 same_files buffer more [] w = refl
 same_files buffer more (b ∷ bounds) w =
-    ap₂ (λ (f : File) (l : List File). f ∷ l) (same_file buffer more b w.0) (same_files buffer more bounds w.1)
+    cc (same_file buffer more b w.0, same_files buffer more bounds w.1)
 
 -- a file begun: its name at the buffer's end
 module _ (buffer name : List ℕ) (bounds : List FileBounds) (from to : ℕ) (starts : from ≡ length buffer)
@@ -82,12 +82,10 @@ module _ (buffer name : List ℕ) (bounds : List FileBounds) (from to : ℕ) (st
   named : take (to - from) (drop from (buffer ++ name)) ≡ name
   named =
       let long = length-append buffer name in
-      ap (λ (n : ℕ). take (to - from) (drop n (buffer ++ name))) starts
-      ∙ ap (take (to - from)) (drop-append_seam buffer name)
-      ∙ take_all (to - from) name (omega arith)
+      cc (starts, drop-append_seam buffer name, take_all (to - from) name (omega arith))
 
   no_content : take (to - to) (drop to (buffer ++ name)) ≡ []
-  no_content = let none : to - to ≡ 0 = omega arith in ap (λ (n : ℕ). take n (drop to (buffer ++ name))) none
+  no_content = let none : to - to ≡ 0 = omega arith in cc none
 
   pub files_begun : map (file_at (buffer ++ name)) (bounds ++ new ∷ [])
       ≡ map (file_at buffer) bounds ++ record { name = name; content = []; ended = false } ∷ []
@@ -120,9 +118,11 @@ module _ (buffer more : List ℕ) (front : List FileBounds) (b : FileBounds) (to
       let left = length-drop b.content buffer in
       let long = length-append buffer more in
       let joined = length-append (drop b.content buffer) more in
-      ap (take (to - b.content)) (drop-append-le b.content buffer more (omega arith))
-      ∙ take_all (to - b.content) (drop b.content buffer ++ more) (omega arith)
-      ∙ ap (λ (l : List ℕ). l ++ more) (sym (take_all (b.end - b.content) (drop b.content buffer) (omega arith)))
+      cc (
+        drop-append-le b.content buffer more (omega arith),
+        take_all (to - b.content) (drop b.content buffer ++ more) (omega arith),
+        take_all (b.end - b.content) (drop b.content buffer) (omega arith),
+      )
 
   abbrev fronts : List File
   fronts = map (file_at buffer) front
@@ -139,8 +139,11 @@ module _ (buffer more : List ℕ) (front : List FileBounds) (b : FileBounds) (to
 
   pub files_longer : map (file_at (buffer ++ more)) (front ++ longer ∷ [])
       ≡ shelved (map FileByte more) (map (file_at buffer) (front ++ b ∷ []))
-  files_longer = longer_is ∙ sym (shelved-content more fronts (file_at buffer b))
-      ∙ ap (shelved (map FileByte more)) (sym (map-append (file_at buffer) front (b ∷ [])))
+  files_longer = cc (
+    longer_is,
+    shelved-content more fronts (file_at buffer b),
+    map-append (file_at buffer) front (b ∷ []),
+  )
 
   pub within_longer : AllWithin (buffer ++ more) (front ++ longer ∷ [])
   within_longer =
@@ -172,9 +175,11 @@ module _ (buffer : List ℕ) (front : List FileBounds) (b : FileBounds) where
 
   pub files_closed : map (file_at buffer) (front ++ closed ∷ [])
       ≡ shelved (EndFile ∷ []) (map (file_at buffer) (front ++ b ∷ []))
-  files_closed = closed_is
-      ∙ sym (on_last-at as_ended (map (file_at buffer) front) (file_at buffer b))
-      ∙ ap (shelved (EndFile ∷ [])) (sym (map-append (file_at buffer) front (b ∷ [])))
+  files_closed = cc (
+    closed_is,
+    on_last-at as_ended (map (file_at buffer) front) (file_at buffer b),
+    map-append (file_at buffer) front (b ∷ []),
+  )
 
   pub within_closed : AllWithin buffer (front ++ b ∷ []) → AllWithin buffer (front ++ closed ∷ [])
   within_closed w =
@@ -185,10 +190,12 @@ module _ (buffer : List ℕ) (front : List FileBounds) (b : FileBounds) where
   pub room_closed : room_of (map (file_at buffer) (front ++ closed ∷ []))
       ≡ room_of (map (file_at buffer) (front ++ b ∷ []))
   room_closed =
-      ap room_of closed_is
-      ∙ room_of-snoc (map (file_at buffer) front) (as_ended (file_at buffer b))
-      ∙ sym (ap room_of (map-append (file_at buffer) front (b ∷ [])) ∙ room_of-snoc (map (file_at buffer) front)
-      (file_at buffer b))
+      cc (
+        closed_is,
+        room_of-snoc (map (file_at buffer) front) (as_ended (file_at buffer b)),
+        map-append (file_at buffer) front (b ∷ []),
+        room_of-snoc (map (file_at buffer) front) (file_at buffer b),
+      )
 
   pub last_closed : (n : ℕ) → LastEndsAt n (front ++ b ∷ []) → LastEndsAt n (front ++ closed ∷ [])
   last_closed n e = last_is n front closed (last_of n front b e)
@@ -287,12 +294,17 @@ within_here buffer bounds i b w there is = subst (IsWithin buffer) (sym is) (wit
 
 file_here : (buffer : List ℕ) (bounds : List FileBounds) (i : ℕ) (b : FileBounds) → i < length bounds
     → b ≡ get_or bounds i b → slice_get (map (file_at buffer) bounds) i ≡ Some (file_at buffer b)
-file_here buffer bounds i b there is = slice_get-map (file_at buffer) bounds i
-    ∙ ap (option_map (file_at buffer)) (slice_get-get_or bounds i b there ∙ ap Some (sym is))
+file_here buffer bounds i b there is = cc (
+  slice_get-map (file_at buffer) bounds i,
+  slice_get-get_or bounds i b there,
+  is,
+)
 
 -- its name, its content, or whether it is ended
 pub part_here : {T : Type 0} (of : File → T) (buffer : List ℕ) (bounds : List FileBounds) (i : ℕ) (b : FileBounds)
     → i < length bounds → b ≡ get_or bounds i b
     → slice_get (map of (map (file_at buffer) bounds)) i ≡ Some (of (file_at buffer b))
-part_here of buffer bounds i b there is = slice_get-map of (map (file_at buffer) bounds) i
-    ∙ ap (option_map of) (file_here buffer bounds i b there is)
+part_here of buffer bounds i b there is = cc (
+  slice_get-map of (map (file_at buffer) bounds) i,
+  file_here buffer bounds i b there is,
+)

@@ -1,6 +1,6 @@
 -- Lists that are appended part by part, and prefixes of them where memory runs out on the way.
 use Rattle.std.proofs.Common.{◌≡◌, ℕ, ◌+◌, ◌<◌, List, [], ◌∷◌, ◌++◌, length, take, drop, get_or, suc, Result, Ok, Err}
-use Rattle.std.proofs.Common.{OnErr, refl, sym, ap, subst, ◌∙◌, append_assoc, append-nil}
+use Rattle.std.proofs.Common.{OnErr, refl, sym, subst, ◌∙◌, append_assoc, append-nil}
 use Rattle.std.proofs.lemmas.List.{take_more, take-append-drop}
 use Rattle.std.proofs.Math.Seq.{drop-cons}
 use Rattle.fx_base.specs.Writing.{HoldsPart}
@@ -19,7 +19,7 @@ module _ {T : Type 0} where
   in_first old new first rest h = record {
     part = h.part;
     left = h.left ++ rest;
-    front = sym (append_assoc h.part h.left rest) ∙ ap (λ (l : List T). l ++ rest) h.front;
+    front = cc (append_assoc h.part h.left rest, h.front);
     held = h.held;
   }
 
@@ -29,8 +29,8 @@ module _ {T : Type 0} where
   past_first old mid new first rest all h = record {
     part = first ++ h.part;
     left = h.left;
-    front = append_assoc first h.part h.left ∙ ap (λ (l : List T). first ++ l) h.front;
-    held = h.held ∙ ap (λ (l : List T). l ++ h.part) all ∙ append_assoc old first h.part;
+    front = cc (append_assoc first h.part h.left, h.front);
+    held = cc (h.held, all, append_assoc old first h.part);
   }
 
 -- the text of a list, which is the texts of its items one after another
@@ -39,20 +39,25 @@ module _ {A T : Type 0} (text : List A → List T) (joins : (xs ys : List A) →
   pub one_more : (xs : List A) (i : ℕ) (x : A) (old mid new : List T) → i < length xs → x ≡ get_or xs i x
       → mid ≡ old ++ text (take i xs) → new ≡ mid ++ text (x ∷ []) → new ≡ old ++ text (take (i + 1) xs)
   one_more xs i x old mid new there is before here =
-      here
-      ∙ ap (λ (l : List T). l ++ text (x ∷ [])) before
-      ∙ append_assoc old (text (take i xs)) (text (x ∷ []))
-      ∙ ap (λ (l : List T). old ++ l) (sym (joins (take i xs) (x ∷ [])))
-      ∙ ap (λ (l : List A). old ++ text l) (ap (λ (y : A). take i xs ++ y ∷ []) is ∙ sym (take_more xs i x there))
+      cc (
+        here,
+        before,
+        append_assoc old (text (take i xs)) (text (x ∷ [])),
+        joins (take i xs) (x ∷ []),
+        is,
+        take_more xs i x there,
+      )
 
   pub split_at : (xs : List A) (i : ℕ) (x : A) → i < length xs → x ≡ get_or xs i x
       → text (take i xs) ++ (text (x ∷ []) ++ text (drop (suc i) xs)) ≡ text xs
   split_at xs i x there is =
-      ap (λ (l : List T). text (take i xs) ++ l) (sym (joins (x ∷ []) (drop (suc i) xs)))
-      ∙ ap (λ (l : List A). text (take i xs) ++ text l)
-      (ap (λ (y : A). y ∷ drop (suc i) xs) is ∙ sym (drop-cons xs i x there))
-      ∙ sym (joins (take i xs) (drop i xs))
-      ∙ ap text (take-append-drop i xs)
+      cc (
+        joins (x ∷ []) (drop (suc i) xs),
+        is,
+        drop-cons xs i x there,
+        joins (take i xs) (drop i xs),
+        take-append-drop i xs,
+      )
 
   -- the items before one, and a prefix of the text of that one
   pub in_item : (xs : List A) (i : ℕ) (x : A) (old mid new : List T) → i < length xs → x ≡ get_or xs i x

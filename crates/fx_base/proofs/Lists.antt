@@ -1,6 +1,6 @@
 -- Lists: what holds of each element, tests and functions that agree, and what stands from a place on.
-use Rattle.std.proofs.Common.{◌≡◌, ℕ, zero, suc, ◌+◌, ◌<◌, Bool, true, false, ◌&&◌, ◌||◌, cond, List, [], ◌∷◌, ◌++◌}
-use Rattle.std.proofs.Common.{length, get_or, map, take, drop, Option, Some, refl, sym, ap, ap₂, ◌∙◌, arith}
+use Rattle.std.proofs.Common.{◌≡◌, ℕ, zero, suc, ◌+◌, ◌<◌, Bool, true, false, ◌&&◌, cond, List, [], ◌∷◌, ◌++◌}
+use Rattle.std.proofs.Common.{length, get_or, map, take, drop, Some, refl, ap₂, arith}
 use Rattle.std.specs.List.{filter, find, list_any, AllByRecursion}
 use Rattle.std.proofs.lemmas.List.{drop_more}
 
@@ -54,18 +54,18 @@ module _ {X : Type 0} (p q : X → Bool) where
 
   pub find_agree : ((x : X) → p x ≡ q x) → (xs : List X) → find p xs ≡ find q xs
   find_agree h [] = refl
-  find_agree h (x ∷ xs) = ap₂ (λ (b : Bool) (o : Option X). cond b (Some x) o) (h x) (find_agree h xs)
+  find_agree h (x ∷ xs) = cc (h x, find_agree h xs)
 
   pub list_any_agree : ((x : X) → p x ≡ q x) → (xs : List X) → list_any p xs ≡ list_any q xs
   list_any_agree h [] = refl
-  list_any_agree h (x ∷ xs) = ap₂ (λ (a b : Bool). a || b) (h x) (list_any_agree h xs)
+  list_any_agree h (x ∷ xs) = cc (h x, list_any_agree h xs)
 
   pub find-filter : (xs : List X) → find q (filter p xs) ≡ find (λ x. p x && q x) xs
   find-filter [] = refl
   find-filter (x ∷ xs) =
       elim (p x) as
       (λ b. find q (cond b (x ∷ filter p xs) (filter p xs)) ≡ cond (b && q x) (Some x) (find (λ y. p y && q y) xs)) [
-        | true ↦ ap (λ (o : Option X). cond (q x) (Some x) o) (find-filter xs)
+        | true ↦ cc (find-filter xs)
         | false ↦ find-filter xs
       ]
 
@@ -73,9 +73,9 @@ module _ {X : Type 0} (p q : X → Bool) where
 module _ {X Y : Type 0} (f g : X → Y) where
   pub map_agree : ((x : X) → f x ≡ g x) → (xs : List X) → map f xs ≡ map g xs
   map_agree h [] = refl
-  map_agree h (x ∷ xs) = ap₂ (λ (y : Y) (ys : List Y). y ∷ ys) (h x) (map_agree h xs)
+  map_agree h (x ∷ xs) = cc (h x, map_agree h xs)
 
 -- an element that is read at a place stands first from there on
 pub drop_read : {X : Type 0} (xs : List X) (i : ℕ) (x : X) → i < length xs → x ≡ get_or xs i x
     → drop i xs ≡ x ∷ drop (i + 1) xs
-drop_read {X} xs i x low is = drop_more xs i x low ∙ ap (λ (y : X). y ∷ drop (i + 1) xs) (sym is)
+drop_read {X} xs i x low is = cc (drop_more xs i x low, is)

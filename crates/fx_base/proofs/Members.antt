@@ -39,7 +39,7 @@ module _ {X : Type 0} where
 
   pub has-filter : (p : X → Bool) (x : X) (xs : List X) → Has x xs → p x ≡ true → Has x (filter p xs)
   has-filter p x [] h is = absurd h
-  has-filter p x (y ∷ ys) (inl e) is = let here : p y ≡ true = ap p (sym e) ∙ is in rw here (inl e)
+  has-filter p x (y ∷ ys) (inl e) is = let here : p y ≡ true = cc (e, is) in rw here (inl e)
   has-filter p x (y ∷ ys) (inr h) is =
       let rest = has-filter p x ys h is in
       let go : (b : Bool) → Has x (cond b (y ∷ filter p ys) (filter p ys)) =

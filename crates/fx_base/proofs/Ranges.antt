@@ -1,5 +1,5 @@
 -- The numbers of a range.
-use Rattle.std.proofs.Common.{◌≡◌, ℕ, zero, suc, ◌+◌, ◌<◌, ◌≤◌, List, [], ◌∷◌, ◌++◌, All, ap, sym, subst, ◌∙◌, arith}
+use Rattle.std.proofs.Common.{◌≡◌, ℕ, zero, suc, ◌+◌, ◌<◌, ◌≤◌, [], ◌∷◌, ◌++◌, All, arith}
 use Rattle.std.specs.List.{range_with_len, AllByRecursion}
 use Rattle.std.proofs.lemmas.List.FromFn.{length-range_with_len, get_or-range_with_len}
 
@@ -12,10 +12,10 @@ each-range P a (suc n) h =
 pub All-range : (n : ℕ) → All (λ k. k < n) (range_with_len 0 n)
 All-range n k d low =
     let there : k < n = omega (arith, length-range_with_len 0 n) in
-    subst (λ (x : ℕ). x < n) (sym (get_or-range_with_len 0 n k d there)) (omega arith)
+    rw (get_or-range_with_len 0 n k d there) (omega arith)
 
 pub range_push : (a n c : ℕ) → a + n ≡ c → range_with_len a (n + 1) ≡ range_with_len a n ++ c ∷ []
-range_push a zero c e = let same : a ≡ c = omega arith in ap (λ (k : ℕ). k ∷ []) same
+range_push a zero c e = let same : a ≡ c = omega arith in cc same
 range_push a (suc n) c e =
     let up : suc n + 1 ≡ suc (n + 1) = omega arith in
-    ap (range_with_len a) up ∙ ap (λ (l : List ℕ). a ∷ l) (range_push (a + 1) n c (omega arith))
+    cc (up, range_push (a + 1) n c (omega arith))

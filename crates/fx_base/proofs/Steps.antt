@@ -1,6 +1,6 @@
 -- Steps of reading to the end and of writing a whole piece.
 use Rattle.std.proofs.Common.{ℕ, ◌≡◌, ◌<◌, ◌≤◌, ◌+◌, ◌++◌, List, [], length, take, drop, Option, Some, zero, suc, refl}
-use Rattle.std.proofs.Common.{sym, ◌∙◌, ap, arith, append_assoc, length-append, length-drop}
+use Rattle.std.proofs.Common.{◌∙◌, ap, arith, append_assoc, length-append, length-drop}
 use Rattle.std.proofs.lemmas.List.{take_all, length-take-le, drop-drop}
 use Rattle.std.proofs.Math.Seq.{take-add}
 use Rattle.fx_base.specs.Reading.{Takes, TakesFrom, IsAllLeft, IsOverLimit, LeavesRest}
@@ -12,9 +12,11 @@ pub appends_more : (old mid new : Option (List ℕ)) (piece : List ℕ) (from n 
     → Appends old mid (take from piece) → Appends mid new (take n (drop from piece))
     → Appends old new (take (from + n) piece)
 appends_more old mid new piece from n a b = record {
-  exposed = λ text e. b.exposed (text ++ take from piece) (a.exposed text e)
-      ∙ ap Some (append_assoc text (take from piece) (take n (drop from piece))
-      ∙ ap (λ (l : List ℕ). text ++ l) (sym (take-add from n piece)));
+  exposed = λ text e. cc (
+    b.exposed (text ++ take from piece) (a.exposed text e),
+    append_assoc text (take from piece) (take n (drop from piece)),
+    take-add from n piece,
+  );
 }
 
 -- a front part of the piece, and then a call that appended nothing
@@ -46,15 +48,11 @@ read_more left mid now bytes buffer grown n a b within is = record {
       let left_over = length-drop (length bytes) text in
       let got : length (take n buffer) ≡ n = length-take-le n buffer within in
       let long : length grown ≡ length bytes + n =
-      ap length is ∙ length-append bytes (take n buffer) ∙ ap (λ (k : ℕ). length bytes + k) got in
+      cc (is, length-append bytes (take n buffer), got) in
       record {
         some = omega (arith, old.some);
-        front = is
-            ∙ ap (λ (l : List ℕ). l ++ take n buffer) old.front
-            ∙ ap (λ (l : List ℕ). take (length bytes) text ++ l) new.front
-            ∙ sym (take-add (length bytes) n text)
-            ∙ ap (λ (k : ℕ). take k text) (sym long);
-        rest = new.rest ∙ ap Some (drop-drop n (length bytes) text ∙ ap (λ (k : ℕ). drop k text) (sym long));
+        front = cc (is, old.front, new.front, take-add (length bytes) n text, long);
+        rest = cc (new.rest, drop-drop n (length bytes) text, long);
       };
 }
 

@@ -11,7 +11,7 @@ pub on_last-at : (change : File → File) (files : List File) (f : File) → on_
     ≡ files ++ change f ∷ []
 on_last-at change [] f = refl
 on_last-at change (g ∷ []) f = refl
-on_last-at change (g ∷ h ∷ files) f = ap (λ (l : List File). g ∷ l) (on_last-at change (h ∷ files) f)
+on_last-at change (g ∷ h ∷ files) f = cc (on_last-at change (h ∷ files) f)
 
 -- bytes given to the last file
 pub shelved-content : (bytes : List ℕ) (files : List File) (f : File)
@@ -21,37 +21,50 @@ shelved-content [] files f =
     ap (λ (c : List ℕ). files ++ record { name = f.name; content = c; ended = f.ended } ∷ [])
     (sym (append-nil f.content))
 shelved-content (b ∷ bytes) files f =
-    ap (shelved (map FileByte bytes)) (on_last-at (with_byte b) files f)
-    ∙ shelved-content bytes files (with_byte b f)
-    ∙ ap (λ (c : List ℕ). files ++ record { name = f.name; content = c; ended = f.ended } ∷ [])
-    (append_assoc f.content (b ∷ []) bytes)
+    cc (
+      on_last-at (with_byte b) files f,
+      shelved-content bytes files (with_byte b f),
+      append_assoc f.content (b ∷ []) bytes,
+    )
 
 -- a whole file
 pub shelved-whole : (name content : List ℕ) (files : List File)
     → shelved (acts_of (WholeFile name content)) files ≡ files ++ whole_file name content ∷ []
 shelved-whole name content files =
     let new : File = record { name = name; content = []; ended = false } in
-    shelved-append (map FileByte content) (EndFile ∷ []) (files ++ new ∷ [])
-    ∙ ap (shelved (EndFile ∷ [])) (shelved-content content files new)
-    ∙ on_last-at as_ended files (record { name = name; content = content; ended = false })
+    cc (
+      shelved-append (map FileByte content) (EndFile ∷ []) (files ++ new ∷ []),
+      shelved-content content files new,
+      on_last-at as_ended files (record { name = name; content = content; ended = false }),
+    )
 
 pub listed-acts : (events : List Event) → listed (acts events) ≡ pieces events
 listed-acts [] = refl
-listed-acts (Piece bytes ∷ events) = listed-append (map ListByte bytes) (acts events)
-    ∙ ap (λ (l : List ℕ). l ++ listed (acts events)) (listed-bytes bytes)
-    ∙ ap (λ (l : List ℕ). bytes ++ l) (listed-acts events)
-listed-acts (WholeFile name content ∷ events) = listed-append (map FileByte content ++ EndFile ∷ []) (acts events)
-    ∙ ap (λ (l : List ℕ). l ++ listed (acts events)) (listed-file content) ∙ listed-acts events
+listed-acts (Piece bytes ∷ events) = cc (
+  listed-append (map ListByte bytes) (acts events),
+  listed-bytes bytes,
+  listed-acts events,
+)
+listed-acts (WholeFile name content ∷ events) = cc (
+  listed-append (map FileByte content ++ EndFile ∷ []) (acts events),
+  listed-file content,
+  listed-acts events,
+)
 
 pub shelved-acts : (events : List Event) (files : List File) → shelved (acts events) files ≡ files ++ files_of events
 shelved-acts [] files = sym (append-nil files)
-shelved-acts (Piece bytes ∷ events) files = shelved-append (map ListByte bytes) (acts events) files
-    ∙ ap (shelved (acts events)) (shelved-bytes bytes files) ∙ shelved-acts events files
+shelved-acts (Piece bytes ∷ events) files = cc (
+  shelved-append (map ListByte bytes) (acts events) files,
+  shelved-bytes bytes files,
+  shelved-acts events files,
+)
 shelved-acts (WholeFile name content ∷ events) files =
-    shelved-append (acts_of (WholeFile name content)) (acts events) files
-    ∙ ap (shelved (acts events)) (shelved-whole name content files)
-    ∙ shelved-acts events (files ++ whole_file name content ∷ [])
-    ∙ append_assoc files (whole_file name content ∷ []) (files_of events)
+    cc (
+      shelved-append (acts_of (WholeFile name content)) (acts events) files,
+      shelved-whole name content files,
+      shelved-acts events (files ++ whole_file name content ∷ []),
+      append_assoc files (whole_file name content ∷ []) (files_of events),
+    )
 
 -- a front part of a list that is two lists ends in the first, or takes it whole
 pub cut : (done left xs ys : List Act) → done ++ left ≡ xs ++ ys
@@ -62,8 +75,8 @@ cut (d ∷ done) left (x ∷ xs) ys e =
     let same : d ≡ x = cc in
     let rest : done ++ left ≡ xs ++ ys = cc in
     elim (cut done left xs ys rest) [
-      | inl t ↦ inl (t.0, ap (λ (l : List Act). d ∷ l) t.1 ∙ ap (λ (a : Act). a ∷ xs) same)
-      | inr t ↦ inr (t.0, ap (λ (l : List Act). d ∷ l) t.1 ∙ ap (λ (a : Act). a ∷ xs ++ t.0) same, t.2)
+      | inl t ↦ inl (t.0, cc (t.1, same))
+      | inr t ↦ inr (t.0, cc (t.1, same), t.2)
     ]
 
 -- a front part of mapped bytes is the first bytes mapped
@@ -74,7 +87,7 @@ front_of_map f [] (d ∷ done) rest e = cc
 front_of_map f (b ∷ bytes) (d ∷ done) rest e =
     let same : d ≡ f b = cc in
     let others : done ++ rest ≡ map f bytes = cc in
-    ap (λ (a : Act). a ∷ done) same ∙ ap (λ (l : List Act). f b ∷ l) (front_of_map f bytes done rest others)
+    cc (same, front_of_map f bytes done rest others)
 
 -- what a front part of the acts of events has done: bytes listed and files added
 pub record Comes (events : List Event) (done : List Act) : Type 0 where
@@ -83,7 +96,7 @@ pub record Comes (events : List Event) (done : List Act) : Type 0 where
   pub added : (files : List File) → shelved done files ≡ files ++ new
 
 comes_as : (events : List Event) (done same : List Act) → done ≡ same → Comes events same → Comes events done
-comes_as events done same e p = subst (λ (l : List Act). Comes events l) (sym e) p
+comes_as events done same e p = rw e p
 
 comes_none : (events : List Event) → Comes events []
 comes_none events = record { new = []; come = AtStart; added = λ files. sym (append-nil files) }
@@ -92,7 +105,7 @@ comes_piece : (bytes : List ℕ) (events : List Event) (n : ℕ)
     → Comes (Piece bytes ∷ events) (map ListByte (take n bytes))
 comes_piece bytes events n = record {
   new = [];
-  come = subst (λ (l : List ℕ). HasCome (Piece bytes ∷ events) l []) (sym (listed-bytes (take n bytes))) (InPiece n);
+  come = rw (listed-bytes (take n bytes)) (InPiece n);
   added = λ files. shelved-bytes (take n bytes) files ∙ sym (append-nil files);
 }
 
@@ -104,10 +117,7 @@ comes_file : (name content : List ℕ) (events : List Event) (n : ℕ)
     → Comes (WholeFile name content ∷ events) (BeginFile name ∷ map FileByte (take n content))
 comes_file name content events n = record {
   new = record { name = name; content = take n content; ended = false } ∷ [];
-  come = subst
-      (λ (l : List ℕ). HasCome (WholeFile name content ∷ events) l
-      (record { name = name; content = take n content; ended = false } ∷ [])) (sym (listed-content (take n content)))
-      (InFile n);
+  come = rw (listed-content (take n content)) (InFile n);
   added = λ files. shelved-content (take n content) files (record { name = name; content = []; ended = false });
 }
 
@@ -116,10 +126,9 @@ past_pieces : (bytes : List ℕ) (events : List Event) (more : List Act) → Com
 past_pieces bytes events more p = record {
   new = p.new;
   come = subst (λ (l : List ℕ). HasCome (Piece bytes ∷ events) l p.new)
-      (sym (listed-append (map ListByte bytes) more ∙ ap (λ (l : List ℕ). l ++ listed more) (listed-bytes bytes)))
+      (sym (cc (listed-append (map ListByte bytes) more, listed-bytes bytes)))
       (PastPiece p.come);
-  added = λ files. shelved-append (map ListByte bytes) more files
-      ∙ ap (shelved more) (shelved-bytes bytes files) ∙ p.added files;
+  added = λ files. cc (shelved-append (map ListByte bytes) more files, shelved-bytes bytes files, p.added files);
 }
 
 past_files : (name content : List ℕ) (events : List Event) (more : List Act) → Comes events more
@@ -127,26 +136,25 @@ past_files : (name content : List ℕ) (events : List Event) (more : List Act) �
 past_files name content events more p = record {
   new = whole_file name content ∷ p.new;
   come = subst (λ (l : List ℕ). HasCome (WholeFile name content ∷ events) l (whole_file name content ∷ p.new))
-      (sym (listed-append (map FileByte content ++ EndFile ∷ []) more ∙ ap (λ (l : List ℕ). l ++ listed more)
-      (listed-file content))) (PastFile p.come);
-  added = λ files. shelved-append (acts_of (WholeFile name content)) more files
-      ∙ ap (shelved more) (shelved-whole name content files)
-      ∙ p.added (files ++ whole_file name content ∷ [])
-      ∙ append_assoc files (whole_file name content ∷ []) p.new;
+      (sym (cc (listed-append (map FileByte content ++ EndFile ∷ []) more, listed-file content))) (PastFile p.come);
+  added = λ files. cc (
+    shelved-append (acts_of (WholeFile name content)) more files,
+    shelved-whole name content files,
+    p.added (files ++ whole_file name content ∷ []),
+    append_assoc files (whole_file name content ∷ []) p.new,
+  );
 }
 
 -- what is left of the end of a file
 in_end : (name content : List ℕ) (events : List Event) (more rest : List Act) → more ++ rest ≡ EndFile ∷ []
     → Comes (WholeFile name content ∷ events) (BeginFile name ∷ (map FileByte content ++ more))
 in_end name content events [] rest e = comes_as _ _ _
-    (ap (λ (l : List Act). BeginFile name ∷ l)
-    (append-nil (map FileByte content) ∙ ap (map FileByte) (sym (take_all (length content) content (omega arith)))))
+    (cc (append-nil (map FileByte content), take_all (length content) content (omega arith)))
     (comes_file name content events (length content))
 in_end name content events (m ∷ []) rest e =
     let same : m ≡ EndFile = cc in
     comes_as _ _ _
-    (ap (λ (a : Act). BeginFile name ∷ (map FileByte content ++ a ∷ [])) same ∙ sym
-    (append-nil (acts_of (WholeFile name content))))
+    (cc (same, append-nil (acts_of (WholeFile name content))))
     (past_files name content events [] (comes_none events))
 in_end name content events (m ∷ o ∷ more) rest e = cc
 
@@ -156,11 +164,11 @@ in_whole_file name content events [] rest e = comes_none (WholeFile name content
 in_whole_file name content events (d ∷ done) rest e =
     let same : d ≡ BeginFile name = cc in
     let others : done ++ rest ≡ map FileByte content ++ EndFile ∷ [] = cc in
-    comes_as _ _ (BeginFile name ∷ done) (ap (λ (a : Act). a ∷ done) same)
+    comes_as _ _ (BeginFile name ∷ done) (cc same)
     (elim (cut done rest (map FileByte content) (EndFile ∷ []) others) [
-      | inl t ↦ comes_as _ _ _ (ap (λ (l : List Act). BeginFile name ∷ l) (front_of_map FileByte content done t.0 t.1))
+      | inl t ↦ comes_as _ _ _ (cc (front_of_map FileByte content done t.0 t.1))
           (comes_file name content events (length done))
-      | inr t ↦ comes_as _ _ _ (ap (λ (l : List Act). BeginFile name ∷ l) t.1) (in_end name content events t.0 rest t.2)
+      | inr t ↦ comes_as _ _ _ (cc t.1) (in_end name content events t.0 rest t.2)
     ])
 
 -- The law: a front part of the acts of events is events that are whole, and then a front part of one.

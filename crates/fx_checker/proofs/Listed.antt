@@ -27,6 +27,7 @@ use Rattle.fx_demands.specs.EffectVectors.{IsForbiddenVector, AreAllForbidden}
 use Rattle.fx_demands.proofs.Completing.{weight-split}
 use Rattle.fx_checker.specs.Books.{word_vector}
 use Rattle.fx_checker.specs.Known.{AreListed, normal_multiple}
+use Rattle.fx_demands.proofs.ForbiddenVectors.{vector-at}
 
 -- multiples have the same factors
 bit-scale : (q : ℕ) (f : IsField q) (c a : ℕ) → 0 < c → c < q → a < q → bit (mul q c a) ≡ bit a
@@ -44,12 +45,6 @@ effect-scale : (q : ℕ) (f : IsField q) (c : ℕ) (u : List ℕ) → 0 < c → 
 effect-scale q f c [] positive hc h = refl
 effect-scale q f c (a ∷ u) positive hc h =
     rw (bit-scale q f c a positive hc h.0, effect-scale q f c u positive hc h.1) refl
-
-vector-at : (words : List ForbiddenVector) (k : ℕ) (w : List ℕ) (a : ForbiddenVector) → k < length words
-    → slice_index_or (map (λ (x : ForbiddenVector). x.vector) words) k w ≡ (slice_index_or words k a).vector
-vector-at [] k w a low = absurd (omega arith)
-vector-at (x ∷ words) zero w a low = refl
-vector-at (x ∷ words) (suc k) w a low = vector-at words k w a (omega arith)
 
 number-at : (words : List ForbiddenVector) (k n : ℕ) (a : ForbiddenVector) → k < length words
     → slice_index_or (map (λ (x : ForbiddenVector). x.number) words) k n ≡ (slice_index_or words k a).number

@@ -9,19 +9,19 @@ use Rattle.std.proofs.Math.Nat.{one-le-pow, mod-lt}
 use native.Mathlib.Nat.{div-lt_iff_lt-mul}
 use Rattle.std.proofs.lemmas.Grind.{get_or-set_at}
 use Rattle.std.proofs.lemmas.List.{get_or-set_other, length_push, length-set}
-use Rattle.std.proofs.lemmas.List.Sums.{sum_by-cons}
 use Rattle.fx_designs.specs.Galois.{neg, number, digits, prime_of, degree_of}
-use Rattle.fx_designs.specs.Vectors.{plus, scale, zeros, weight, combination, vectors_of}
-use Rattle.fx_laws.proofs.Codes.{digits-vector, number-zeros}
+use Rattle.fx_designs.specs.Vectors.{plus, scale, vectors_of}
+use Rattle.fx_laws.proofs.Codes.{digits-vector}
 use Rattle.fx_laws.proofs.Forms.{scale-one}
 use Rattle.fx_laws.proofs.Space.{scale-vector}
 use Rattle.fx_demands.proofs.Digits.{sum_xor}
 use Rattle.fx_words.specs.Spreads.{spread}
 use Rattle.fx_words.specs.Tables.{difference}
 use Rattle.fx_words.proofs.Levels.{length-vectors, so_far-one, so_far-more, so_far-all, spread-fits, spread-none}
-use Rattle.fx_words.proofs.Opposites.{place_below}
 use Rattle.fx_foldover.specs.Counts.{AreCounts}
 use Rattle.fx_foldover.proofs.Rules.{two}
+use Rattle.fx_words.proofs.Starts.{spread-start}
+use Rattle.fx_points.proofs.Multiples.{place_below}
 
 -- where the count of the weight below is, for the point less the row
 abbrev pub lighter_place : ℕ → ℕ → ℕ → ℕ
@@ -165,15 +165,6 @@ added n s rows row points place before counts ep hr le ge old h = record {
         let up = suc-mul w (2 ^ n) in
         h.done (suc w * 2 ^ n + x) (omega arith) (inside (suc w) x hw hx)
         ∙ new-count n s rows row points before ep hr old w x hw hx
-
--- the one vector over no rows has the sum zero
-spread-start : (q m w x : ℕ) → spread q m [] w x ≡ cond (eqb 0 x && eqb 0 w) 1 0
-unfolding spread
-spread-start q m w x =
-    sum_by-cons (λ u. cond (eqb (number q (combination q m u [])) x && eqb (weight u) w) 1 0) [] []
-    ∙ (let e : cond (eqb (number q (zeros m)) x && eqb 0 w) 1 0 + 0
-    ≡ cond (eqb (number q (zeros m)) x && eqb 0 w) 1 0 = omega arith in e)
-    ∙ ap (λ k. cond (eqb k x && eqb 0 w) 1 0) (number-zeros q m)
 
 -- the counts of no rows
 pub start : (n s count : ℕ) → count ≡ (s + 1) * 2 ^ n → 0 < count → AreCounts n s [] (set (replicate count 0) 0 1)

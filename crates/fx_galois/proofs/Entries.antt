@@ -1,5 +1,5 @@
 -- The entries of the tables, each compared with the operation that it stands for.
-use Rattle.std.proofs.Common.{ℕ, ◌≡◌, ◌<◌, Bool, true, List, [], ◌∷◌, eqb, ltb, get_or, refl, sym, subst, zero-add}
+use Rattle.std.proofs.Common.{ℕ, ◌≡◌, ◌<◌, Bool, true, List, [], ◌∷◌, eqb, ltb, get_or, refl, zero-add}
 use Rattle.std.proofs.Common.{arith, rules, inl, inr, length}
 use Rattle.std.specs.Prelude.{IsTrue}
 use Rattle.std.specs.List.{range_with_len, list_all, list_any}
@@ -26,7 +26,7 @@ at_member : (p : ℕ → Bool) (xs : List ℕ) (x : ℕ) → list_any (λ n. eqb
 at_member p [] x there all = absurd (search rules)
 at_member p (y ∷ xs) x there all =
     elim (or_cases _ _ there) [
-      | inl e ↦ subst (λ z. p z ≡ true) (sym (eqb-true x y e)) (and_parts _ _ all).0
+      | inl e ↦ rw (eqb-true x y e) (and_parts _ _ all).0
       | inr later ↦ at_member p xs x later (and_parts _ _ all).1
     ]
 

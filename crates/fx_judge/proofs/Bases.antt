@@ -1,7 +1,7 @@
 -- A basis of differences: for each factor a direction, which is zero where the factor is not basic. Its columns are the
 -- rules.
-use Rattle.std.proofs.Common.{ℕ, zero, suc, ◌≡◌, ◌<◌, ◌⊎◌, Bool, true, false, ◌&&◌, ◌||◌, eqb, List, [], ◌∷◌, length}
-use Rattle.std.proofs.Common.{get_or, Some, None, refl, sym, subst, ◌∙◌, ap, ap₂, arith, inl, inr}
+use Rattle.std.proofs.Common.{ℕ, zero, suc, ◌≡◌, ◌<◌, ◌⊎◌, Bool, true, false, ◌&&◌, eqb, List, [], ◌∷◌, length}
+use Rattle.std.proofs.Common.{get_or, Some, None, refl, sym, ◌∙◌, ap, ap₂, arith, inl, inr}
 use Rattle.std.specs.Prelude.{find}
 use Rattle.std.specs.List.{All, list_any}
 use Rattle.std.proofs.lemmas.Bool.{cases_Bool, cases_lt, eq-eqb, eqb-true, and_parts, and_from, false_from_ne_true}
@@ -46,10 +46,9 @@ find_one : {X : Type 0} (p : X → Bool) (xs : List X) (u : X) → list_any p xs
 find_one p [] u e each = cc e
 find_one p (x ∷ xs) u e each =
     elim (cases_Bool (p x)) [
-      | inl t ↦ cond-true (p x) (Some x) (find p xs) t ∙ ap (λ z. Some z)
-          (All-head (λ v. p v ≡ true → v ≡ u) x xs each t)
+      | inl t ↦ cc (cond-true (p x) (Some x) (find p xs) t, All-head (λ v. p v ≡ true → v ≡ u) x xs each t)
       | inr n ↦ cond-false (p x) (Some x) (find p xs) n ∙ find_one p xs u
-          (sym (ap (λ (b : Bool). b || list_any p xs) n) ∙ e) (All-tail (λ v. p v ≡ true → v ≡ u) x xs each)
+          (cc) (All-tail (λ v. p v ≡ true → v ≡ u) x xs each)
     ]
 
 find_none : {X : Type 0} (p : X → Bool) (xs : List X) → All (λ v. p v ≡ false) xs → find p xs ≡ None
@@ -85,22 +84,27 @@ module _ (q : ℕ) (f : IsField q) where
   dot_unit (suc s) zero (a ∷ v) h low =
       rw (f.mul_one a h.codes.0, dot_comm q f v (zeros s), dot-zeros q f s v) (f.add_zero a h.codes.0)
   dot_unit (suc s) (suc k) (a ∷ v) h low =
-      ap (λ (x : ℕ). add q x (dot q v (unit s k))) (f.mul_zero a) ∙ zero-add-code q f (dot q v (unit s k))
-      (dot_code q f v (unit s k))
-      ∙ dot_unit s k v (record { len = (let e = h.len in omega arith); codes = h.codes.1 }) (omega arith)
+      cc (
+        f.mul_zero a,
+        zero-add-code q f (dot q v (unit s k)) (dot_code q f v (unit s k)),
+        dot_unit s k v (record { len = (let e = h.len in omega arith); codes = h.codes.1 }) (omega arith),
+      )
 
   pub dot_sum : (a u w : List ℕ) (c : ℕ) → dot q a (plus q u (scale q c w)) ≡ add q (dot q a u) (mul q c (dot q a w))
   dot_sum a u w c =
-      dot_comm q f a (plus q u (scale q c w)) ∙ dot-plus q f u (scale q c w) a ∙ ap (add q (dot q u a))
-      (dot-scale q f c w a)
-      ∙ ap₂ (λ (x y : ℕ). add q x (mul q c y)) (dot_comm q f u a) (dot_comm q f w a)
+      cc (
+        dot_comm q f a (plus q u (scale q c w)),
+        dot-plus q f u (scale q c w) a,
+        dot-scale q f c w a,
+        dot_comm q f u a,
+        dot_comm q f w a,
+      )
 
   -- whether two vectors have the same product
   pub same_closed : (a b : List ℕ) → IsClosed q (λ x. eqb (dot q a x) (dot q b x))
   same_closed a b = record {
     sums = λ u w c h p r. eq-eqb _ _
-        (dot_sum a u w c ∙ ap₂ (λ (x y : ℕ). add q x (mul q c y)) (eqb-true _ _ p) (eqb-true _ _ r) ∙ sym
-        (dot_sum b u w c));
+        (cc (dot_sum a u w c, eqb-true _ _ p, eqb-true _ _ r, dot_sum b u w c));
   }
 
   -- v.w is v.x where w and x agree wherever v is not zero
@@ -112,8 +116,7 @@ module _ (q : ℕ) (f : IsField q) where
   dot_where (a ∷ v) (b ∷ w) [] len h = absurd (omega arith)
   dot_where (a ∷ v) (b ∷ w) (y ∷ x) len h =
       let heads : mul q a b ≡ mul q a y = elim (h 0 (omega arith)) [
-        | inl z ↦ ap (λ (n : ℕ). mul q n b) z ∙ f.mul_comm 0 b ∙ f.mul_zero b ∙ sym
-            (ap (λ (n : ℕ). mul q n y) z ∙ f.mul_comm 0 y ∙ f.mul_zero y)
+        | inl z ↦ cc (f.mul_comm 0 b, f.mul_zero b, f.mul_comm 0 y, f.mul_zero y)
         | inr e ↦ ap (mul q a) e
       ] in
       ap₂ (add q) heads (dot_where v w x (omega arith) (λ j l. h (suc j) (omega arith)))
@@ -130,10 +133,10 @@ module _ (q : ℕ) (f : IsField q) where
     direction k = get_or rows k []
 
     pub direction_vector : (k : ℕ) → k < s → IsVector q s (direction k)
-    direction_vector k low = All-get_or (λ r. IsVector q s r) rows k [] (omega (arith, stage.count)) stage.vectors
+    direction_vector k low = All-get_or (λ r. IsVector q s r) rows k [] (omega arith) stage.vectors
 
     pub column_at : (j k : ℕ) → k < s → get_or (column j rows) k 0 ≡ get_or (direction k) j 0
-    column_at j k low = get_or-map (λ r. get_or r j 0) rows k [] 0 (omega (arith, stage.count))
+    column_at j k low = get_or-map (λ r. get_or r j 0) rows k [] 0 (omega arith)
 
     pub column_len : (j : ℕ) → length (column j rows) ≡ s
     column_len j = length-map rows (λ r. get_or r j 0) ∙ stage.count
@@ -141,7 +144,7 @@ module _ (q : ℕ) (f : IsField q) where
     code_at : (j k : ℕ) → j < s → k < s → get_or (direction k) j 0 < q
     code_at j k hj hk =
         let h = direction_vector k hk in
-        All-get_or (λ c. c < q) (direction k) j 0 (omega (arith, h.len))
+        All-get_or (λ c. c < q) (direction k) j 0 (omega arith)
         (All-from_recursion (λ c. c < q) (direction k) h.codes)
 
     pub column_vector : (j : ℕ) → j < s → IsVector q s (column j rows)
@@ -149,14 +152,14 @@ module _ (q : ℕ) (f : IsField q) where
       len = column_len j;
       codes = recursion_from_All (λ c. c < q) (column j rows) (All-from_get_or (λ c. c < q) (column j rows) 0
           (λ k low. let hk : k < s = omega (arith, column_len j) in
-          subst (λ (c : ℕ). c < q) (sym (column_at j k hk)) (code_at j k hj hk)));
+          rw (column_at j k hk) (code_at j k hj hk)));
     }
 
     -- a marked factor is one of the first i
     pub marked : (k : ℕ) → get_or basic k false ≡ true → k < i
     marked k e = elim (cases_lt k i) [
       | inl low ↦ low
-      | inr past ↦ absurd (both_ways _ (get_or_past basic k false (omega (arith, stage.marks))) e)
+      | inr past ↦ absurd (both_ways _ (get_or_past basic k false (omega arith)) e)
     ]
 
     pub off_basics : (j k : ℕ) → j < s → k < s → get_or basic k false ≡ false → get_or (column j rows) k 0 ≡ 0
@@ -171,11 +174,11 @@ module _ (q : ℕ) (f : IsField q) where
       unique : (v : List ℕ) → IsVector q s v → is_over basic v ≡ true → gives q differences i v ≡ true
           → v ≡ column i rows
       unique v hv over given =
-          ext_get_or 0 v (column i rows) (hv.len ∙ sym (column_len i)) (λ k short. at k (omega (arith, hv.len)))
+          ext_get_or 0 v (column i rows) (hv.len ∙ sym (column_len i)) (λ k short. at k (omega arith))
         where
           all_pass : All (λ d. eqb (dot q v d) (dot q (unit s i) d) ≡ true) differences
           all_pass = All-from_get_or (λ d. eqb (dot q v d) (dot q (unit s i) d) ≡ true) differences [] (λ n h.
-              let d : List ℕ = get_or differences n [] in
+              let d = get_or differences n [] in
               let is = eqb-true _ _
               (All-get_or (λ d. eqb (dot q v d) (get_or d i 0) ≡ true) differences n [] h
               (AllPass-from_list_all (λ d. eqb (dot q v d) (get_or d i 0)) differences given)) in
@@ -186,7 +189,7 @@ module _ (q : ℕ) (f : IsField q) where
           on_direction : (k : ℕ) → k < s → dot q v (direction k) ≡ get_or (direction k) i 0
           on_direction k hk =
               eqb-true _ _
-              ((All-get_or (λ r. IsMade q differences r) rows k [] (omega (arith, stage.count)) stage.made).passes
+              ((All-get_or (λ r. IsMade q differences r) rows k [] (omega arith) stage.made).passes
               (λ x. eqb (dot q v x) (dot q (unit s i) x)) (same_closed v (unit s i)) all_pass)
               ∙ dot_comm q f (unit s i) (direction k) ∙ dot_unit s i (direction k) (direction_vector k hk) low
 
@@ -195,16 +198,15 @@ module _ (q : ℕ) (f : IsField q) where
               dot_where v (direction k) (unit s k) ((direction_vector k hk).len ∙ sym (unit-vector q s k f).len)
               (λ j short. elim (cases_Bool (get_or basic j false)) [
                 | inl t ↦
-                    let hj : j < s = omega (arith, hv.len) in
-                    inr (sym (column_at j k hk) ∙ ap (λ (u : List ℕ). get_or u k 0) (stage.units j (marked j t) t) ∙
-                    unit_turned s j k hj hk)
+                    let hj : j < s = omega arith in
+                    inr (cc (column_at j k hk, stage.units j (marked j t) t, unit_turned s j k hj hk))
                 | inr n ↦ inl (over_zero basic v j over n)
               ])
               ∙ dot_unit s k v hv hk
 
           at : (k : ℕ) → k < s → get_or v k 0 ≡ get_or (column i rows) k 0
           at k hk = elim (cases_Bool (get_or basic k false)) [
-            | inl t ↦ sym (entry k hk t) ∙ on_direction k hk ∙ sym (column_at i k hk)
+            | inl t ↦ cc (entry k hk t, on_direction k hk, column_at i k hk)
             | inr n ↦ over_zero basic v k over n ∙ sym (off_basics i k low hk n)
           ]
 
@@ -216,15 +218,15 @@ module _ (q : ℕ) (f : IsField q) where
           → combination_for q s differences basic i ≡ Some (column i rows)
       unfolding combination_for
       found e =
-          let u : List ℕ = column i rows in
+          let u = column i rows in
           let hu = column_vector i low in
-          let some : 0 < q = omega (arith, f.more_than_one) in
+          let some : 0 < q = omega arith in
           let below = place-below q s u hu in
           let there : get_or (points q s) (place q u) [] ≡ u =
           points-at q s (place q u) some below ∙ point_of-place q s u hu in
           find_one test (points q s) u
-          (list_any_at test (points q s) (place q u) [] (omega (arith, below, length-points q s))
-          (subst (λ (z : List ℕ). test z ≡ true) (sym there) (and_from _ _ (column_over i low) e)))
+          (list_any_at test (points q s) (place q u) [] (omega (arith, length-points q s))
+          (rw there (and_from _ _ (column_over i low) e)))
           (all-points q s some (λ v. test v ≡ true → v ≡ u)
           (λ v hv t. let parts = and_parts (is_over basic v) (gives q differences i v) t in
           unique v hv parts.0 parts.1))
@@ -232,9 +234,9 @@ module _ (q : ℕ) (f : IsField q) where
       pub missing : gives q differences i (column i rows) ≡ false → combination_for q s differences basic i ≡ None
       unfolding combination_for
       missing e =
-          let some : 0 < q = omega (arith, f.more_than_one) in
+          let some : 0 < q = omega arith in
           find_none test (points q s)
           (all-points q s some (λ v. test v ≡ false) (λ v hv. false_from_ne_true (test v) (λ t.
           let parts = and_parts (is_over basic v) (gives q differences i v) t in
           both_ways (gives q differences i (column i rows)) e
-          (subst (λ (z : List ℕ). gives q differences i z ≡ true) (unique v hv parts.0 parts.1) parts.1))))
+          (rw (unique v hv parts.0 parts.1) at parts.1))))

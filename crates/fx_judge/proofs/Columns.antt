@@ -1,6 +1,6 @@
 -- The values of components on the runs of a plan.
 use Rattle.std.proofs.Common.{ℕ, ◌≡◌, ◌<◌, ◌+◌, List, [], ◌∷◌, ◌++◌, length, map, take, drop, get_or, sym}
-use Rattle.std.proofs.Common.{subst, ◌∙◌, ap, ap₂, arith, append_assoc}
+use Rattle.std.proofs.Common.{◌∙◌, ap, ap₂, arith, append_assoc}
 use Rattle.std.specs.List.{flat_map}
 use Rattle.std.proofs.lemmas.List.{drop-map, drop_more, map-append, take_more}
 use Rattle.std.proofs.lemmas.Simd.{map-map}
@@ -19,7 +19,7 @@ use Rattle.fx_judge.proofs.Counts.{value_at}
 pub column_value : (plan : PlanView) (u : Column) → IsColumn plan u → (i : ℕ) → i < length plan.rows
     → get_or u.values i 0 ≡ dot plan.q u.component (get_or plan.rows i [])
 column_value plan u h i low =
-    ap (λ (l : List ℕ). get_or l i 0) h.values ∙ value_at (dot plan.q u.component) plan.rows i [] low
+    cc (h.values, value_at (dot plan.q u.component) plan.rows i [] low)
 
 pub column_code : (plan : PlanView) → IsPlan plan → (u : Column) → IsColumn plan u → (i : ℕ) → i < length plan.rows
     → get_or u.values i 0 < 9
@@ -36,12 +36,18 @@ column_code plan p u h i low =
 joined : (plan : PlanView) (xs ys : List (List ℕ × List ℕ)) (old now new : Pairs) → HasPairs plan xs old now
     → HasPairs plan ys now new → HasPairs plan (xs ++ ys) old new
 joined plan xs ys old now new a b = record {
-  kinds = b.kinds ∙ ap (λ l. l ++ map (kinship_in plan) ys) a.kinds
-      ∙ append_assoc old.kinds (map (kinship_in plan) xs) (map (kinship_in plan) ys)
-      ∙ ap (λ l. old.kinds ++ l) (sym (map-append (kinship_in plan) xs ys));
-  lines = b.lines ∙ ap (λ (l : List ℕ). l ++ flat_map (line_in plan) ys) a.lines
-      ∙ append_assoc old.lines (flat_map (line_in plan) xs) (flat_map (line_in plan) ys)
-      ∙ ap (λ (l : List ℕ). old.lines ++ l) (sym (flat_map-append (line_in plan) xs ys));
+  kinds = cc (
+    b.kinds,
+    a.kinds,
+    append_assoc old.kinds (map (kinship_in plan) xs) (map (kinship_in plan) ys),
+    map-append (kinship_in plan) xs ys,
+  );
+  lines = cc (
+    b.lines,
+    a.lines,
+    append_assoc old.lines (flat_map (line_in plan) xs) (flat_map (line_in plan) ys),
+    flat_map-append (line_in plan) xs ys,
+  );
 }
 
 -- one pair more
@@ -51,9 +57,8 @@ pub pairs_more : (plan : PlanView) (all : List (List ℕ × List ℕ)) (k : ℕ)
     → HasPairs plan (take (k + 1) all) old new
 pairs_more plan all k d pair old now new low is before one =
     let next : take (k + 1) all ≡ take k all ++ pair ∷ [] =
-    take_more all k d low ∙ ap (λ (p : List ℕ × List ℕ). take k all ++ p ∷ []) (sym is) in
-    subst (λ (l : List (List ℕ × List ℕ)). HasPairs plan l old new) (sym next)
-    (joined plan (take k all) (pair ∷ []) old now new before one)
+    cc (take_more all k d low) in
+    rw next (joined plan (take k all) (pair ∷ []) old now new before one)
 
 -- the pairs of the column at i and each later one, and then those of the later ones
 pub pairs_at : (columns : List Column) (components : List (List ℕ)) (i : ℕ) (u : Column) (later : List Column)
@@ -67,7 +72,7 @@ pairs_at columns components i u later is low at from =
     let here : drop i components ≡ a ∷ drop (i + 1) components =
     ap (drop i) (sym is) ∙ drop-map component i columns ∙ ap (map component) (drop_more columns i u low)
     ∙ ap₂ (λ (c : Column) (l : List (List ℕ)). component c ∷ l) (sym at)
-    (sym (drop-map component (i + 1) columns) ∙ ap (drop (i + 1)) is) in
+    (cc (drop-map component (i + 1) columns, is)) in
     let pairs : map (λ (v : Column). (a, component v)) later ≡ map (λ y. (a, y)) (drop (i + 1) components) =
     ap (map (λ (v : Column). (a, component v))) from ∙ sym (map-map (λ y. (a, y)) component (drop (i + 1) columns))
     ∙ ap (map (λ y. (a, y))) (sym (drop-map component (i + 1) columns) ∙ ap (drop (i + 1)) is) in
@@ -78,15 +83,18 @@ pub kinds_left : (plan : PlanView) (added rest all : List (List ℕ × List ℕ)
     → HasPairs plan added old new
     → added ++ rest ≡ all → new.kinds ++ map (kinship_in plan) rest ≡ old.kinds ++ map (kinship_in plan) all
 kinds_left plan added rest all old new h is =
-    ap (λ l. l ++ map (kinship_in plan) rest) h.kinds
-    ∙ append_assoc old.kinds (map (kinship_in plan) added) (map (kinship_in plan) rest)
-    ∙ ap (λ l. old.kinds ++ l) (sym (map-append (kinship_in plan) added rest) ∙ ap (map (kinship_in plan)) is)
+    cc (
+      h.kinds,
+      append_assoc old.kinds (map (kinship_in plan) added) (map (kinship_in plan) rest),
+      map-append (kinship_in plan) added rest,
+    )
 
 pub lines_left : (plan : PlanView) (added rest all : List (List ℕ × List ℕ)) (old new : Pairs)
     → HasPairs plan added old new
     → added ++ rest ≡ all → new.lines ++ flat_map (line_in plan) rest ≡ old.lines ++ flat_map (line_in plan) all
 lines_left plan added rest all old new h is =
-    ap (λ (l : List ℕ). l ++ flat_map (line_in plan) rest) h.lines
-    ∙ append_assoc old.lines (flat_map (line_in plan) added) (flat_map (line_in plan) rest)
-    ∙ ap (λ (l : List ℕ). old.lines ++ l)
-    (sym (flat_map-append (line_in plan) added rest) ∙ ap (flat_map (line_in plan)) is)
+    cc (
+      h.lines,
+      append_assoc old.lines (flat_map (line_in plan) added) (flat_map (line_in plan) rest),
+      flat_map-append (line_in plan) added rest,
+    )

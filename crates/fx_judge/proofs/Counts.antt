@@ -1,6 +1,6 @@
 -- How often each value comes in the first items of a list.
 use Rattle.std.proofs.Common.{ℕ, ◌≡◌, ◌≢◌, ◌<◌, ◌≤◌, ◌+◌, eqb, List, [], length, replicate, map, take, set, get_or}
-use Rattle.std.proofs.Common.{get_or-set_other, get_or-set_same, sym, subst, ◌∙◌, ap, arith, inl, inr}
+use Rattle.std.proofs.Common.{get_or-set_other, get_or-set_same, sym, ◌∙◌, ap, arith, inl, inr}
 use Rattle.std.proofs.lemmas.List.{take_all, get_or-map, length-replicate, get_or-replicate, length-take}
 use Rattle.std.proofs.Math.ListN.{length-set}
 use Rattle.std.proofs.lemmas.List.Sums.{count_by_more_no, count_by_more_yes, count_by-le-length}
@@ -15,7 +15,7 @@ counted_more n values counts k v h is low c = record {
   len = simp length-set c.len;
   each = λ y small. elim (cases_eq y v) [
     | inl e ↦
-        let room : v < length counts = omega (arith, c.len) in
+        let room : v < length counts = omega arith in
         let yes = count_by_more_yes (λ z. eqb z y) values k 0 h (eq-eqb _ _ (is ∙ sym e)) in
         let was = c.each y small in
         rw (e, get_or-set_same) (ap (λ (n : ℕ). n + 1) (rw e at was) ∙ sym (rw e at yes))
@@ -35,7 +35,7 @@ counted_low n values counts k v low c =
 -- after all items
 pub counted_all : (n : ℕ) (values counts : List ℕ) (k : ℕ) → length values ≤ k → AreValueCounts n (take k values) counts
     → AreValueCounts n values counts
-counted_all n values counts k past c = subst (λ (l : List ℕ). AreValueCounts n l counts) (take_all k values past) c
+counted_all n values counts k past c = rw (take_all k values past) at c
 
 -- the value of a row
 pub value_at : (f : List ℕ → ℕ) (rows : List (List ℕ)) (k : ℕ) (d : List ℕ) → k < length rows

@@ -22,20 +22,20 @@ use Rattle.fx_judge.proofs.Kinships.{back, cancelled, dot-minus, less}
 use Rattle.fx_judge.proofs.Pigeons.{total}
 
 sum_const : (k a n : ℕ) → sum_by (λ (z : ℕ). k) (range_with_len a n) ≡ n * k
-sum_const k a n = sum_by-constant k (range_with_len a n) ∙ ap (λ (m : ℕ). m * k) (length-range_with_len a n)
+sum_const k a n = cc (sum_by-constant k (range_with_len a n), length-range_with_len a n)
 
 -- how many codes pass a test that is the same at each, and one that a single code passes
 same_tests : (p : ℕ → Bool) (t : Bool) (q : ℕ) → ((c : ℕ) → p c ≡ t)
     → sum_by (λ c. cond (p c) 1 0) (codes_of q) ≡ q * cond t 1 0
 same_tests p t q same =
-    sum_by-ext (λ c. cond (p c) 1 0) (λ c. cond t 1 0) (codes_of q) (λ c. ap (λ (b : Bool). cond b 1 0) (same c))
+    sum_by-ext (λ c. cond (p c) 1 0) (λ c. cond t 1 0) (codes_of q) (λ c. cc (same c))
     ∙ sum_const (cond t 1 0) 0 q
 
 one_test : (p : ℕ → Bool) (z q : ℕ) → z < q → ((c : ℕ) → c < q → p c ≡ eqb c z)
     → sum_by (λ c. cond (p c) 1 0) (codes_of q) ≡ 1
 one_test p z q low same =
     sum_by-same (λ c. cond (p c) 1 0) (λ c. cond (eqb c z) 1 0) 0 q
-    (λ c from to. ap (λ (b : Bool). cond b 1 0) (same c (omega arith)))
+    (λ c from to. cc (same c (omega arith)))
     ∙ sum_by-pick (λ c. 1) z 0 q (omega arith) (omega arith)
 
 -- how many lines pass both of two points, where one is above the other and where not
@@ -55,20 +55,21 @@ module _ (q : ℕ) (f : IsField q) where
 
   cancel_out : (p x y : ℕ) → p < q → add q (add q p x) (add q (minus_one p) y) ≡ add q y x
   cancel_out p x y h =
-      add-add q f p x (minus_one p) y ∙ ap (λ (z : ℕ). add q z (add q x y)) (less q f p h)
-      ∙ zero-add-code q f (add q x y) (f.add_code x y) ∙ f.add_comm x y
+      cc (add-add q f p x (minus_one p) y, less q f p h, zero-add-code q f (add q x y) (f.add_code x y), f.add_comm x y)
 
   cancel_in : (a x y : ℕ) → y < q → add q (add q a (minus_one y)) (add q x y) ≡ add q a x
   cancel_in a x y h =
-      add-add q f a (minus_one y) x y
-      ∙ ap (add q (add q a x)) (f.add_comm (minus_one y) y ∙ less q f y h) ∙ f.add_zero (add q a x) (f.add_code a x)
+      cc (
+        add-add q f a (minus_one y) x y,
+        f.add_comm (minus_one y) y,
+        less q f y h,
+        f.add_zero (add q a x) (f.add_code a x),
+      )
 
   -- c times b - B
   product : (c b B : ℕ) → mul q c (add q b (minus_one B)) ≡ add q (mul q c b) (minus_one (mul q c B))
   product c b B =
-      f.distributes c b (minus_one B)
-      ∙ ap (add q (mul q c b))
-      (sym (f.mul_assoc c (neg q 1) B) ∙ ap (λ (z : ℕ). mul q z B) (f.mul_comm c (neg q 1)) ∙ f.mul_assoc (neg q 1) c B)
+      cc (f.distributes c b (minus_one B), f.mul_assoc c (neg q 1) B, f.mul_comm c (neg q 1), f.mul_assoc (neg q 1) c B)
 
   module _ (A B a b : ℕ) (hA : A < q) (hB : B < q) (ha : a < q) (hb : b < q) where
     abbrev test : ℕ → Bool
@@ -93,36 +94,40 @@ module _ (q : ℕ) (f : IsField q) where
       rise : (c : ℕ) → c < q → add q A (minus_one (mul q c B)) ≡ add q a (minus_one (mul q c b))
           → mul q c gap ≡ add q a (minus_one A)
       rise c hc e =
-          product c b B ∙ sym (cancel_out A (minus_one (mul q c B)) (mul q c b) hA)
-          ∙ ap (λ (z : ℕ). add q z (add q (minus_one A) (mul q c b))) e
-          ∙ cancel_in a (minus_one A) (mul q c b) (f.mul_code c b)
+          cc (
+            product c b B,
+            cancel_out A (minus_one (mul q c B)) (mul q c b) hA,
+            cancel_in a (minus_one A) (mul q c b) (f.mul_code c b),
+          )
 
       fall : (c : ℕ) → mul q c gap ≡ add q a (minus_one A)
           → add q A (minus_one (mul q c B)) ≡ add q a (minus_one (mul q c b))
       fall c e =
           let there : add q (mul q c b) (minus_one (mul q c B)) ≡ add q a (minus_one A) = sym (product c b B) ∙ e in
-          sym (cancel_out (mul q c b) (minus_one (mul q c B)) A (f.mul_code c b))
-          ∙ ap (λ (z : ℕ). add q z (add q (minus_one (mul q c b)) A)) there
-          ∙ cancel_in a (minus_one (mul q c b)) A hA
+          cc (
+            cancel_out (mul q c b) (minus_one (mul q c B)) A (f.mul_code c b),
+            cancel_in a (minus_one (mul q c b)) A hA,
+          )
 
       -- one line through both points, but for the upright one
       one_line : (c : ℕ) → c < q → test c ≡ eqb c slope
       one_line c hc = bool_same (test c) (eqb c slope)
           (λ t. eq-eqb c slope
-          (sym (f.mul_one c hc) ∙ ap (mul q c) (sym inverse) ∙ sym (f.mul_assoc c gap (inv q gap))
-          ∙ ap (λ (z : ℕ). mul q z (inv q gap)) (rise c hc (eqb-true _ _ t))))
+          (cc (f.mul_one c hc, inverse, f.mul_assoc c gap (inv q gap), rise c hc (eqb-true _ _ t))))
           (λ t. eq-eqb _ _ (fall c
-          (ap (λ (z : ℕ). mul q z gap) (eqb-true _ _ t) ∙ f.mul_assoc (add q a (minus_one A)) (inv q gap) gap
-          ∙ ap (mul q (add q a (minus_one A))) (f.mul_comm (inv q gap) gap ∙ inverse)
-          ∙ f.mul_one (add q a (minus_one A)) (f.add_code a (minus_one A)))))
+          (cc (
+            eqb-true _ _ t,
+            f.mul_assoc (add q a (minus_one A)) (inv q gap) gap,
+            f.mul_comm (inv q gap) gap,
+            inverse,
+            f.mul_one (add q a (minus_one A)) (f.add_code a (minus_one A)),
+          ))))
 
     -- all lines, where the two points are one above the other
     same_line : B ≡ b → (c : ℕ) → test c ≡ eqb A a
     same_line e c = bool_same (test c) (eqb A a)
         (λ t. eq-eqb A a
-        (sym (cancelled q f A z hA low) ∙ ap (λ (y : ℕ). add q y (minus_one z))
-        (eqb-true _ _ t ∙ ap (add q a) (sym turn))
-        ∙ cancelled q f a z ha low))
+        (cc (cancelled q f A z hA low, eqb-true _ _ t, cancelled q f a z ha low)))
         (λ t. eq-eqb _ _ (ap₂ (add q) (eqb-true _ _ t) turn))
       where
         z : ℕ
@@ -132,24 +137,24 @@ module _ (q : ℕ) (f : IsField q) where
         low = f.mul_code (neg q 1) (mul q c B)
 
         turn : minus_one (mul q c B) ≡ minus_one (mul q c b)
-        turn = ap (λ (y : ℕ). minus_one (mul q c y)) e
+        turn = cc
 
     -- of the q + 1 lines through (a, b) all pass (A, B), where that is the same point, and else one does
     lines_at : sum_by (λ c. cond (test c) 1 0) (codes_of q) + cond (eqb B b) 1 0 ≡ 1 + q * cond (eqb A a && eqb B b) 1 0
     lines_at = elim (cases_eq B b) [
       | inl e ↦
-          let all : sum_by (λ c. cond (test c) 1 0) (codes_of q) ≡ q * cond (eqb A a) 1 0 =
+          let all =
           same_tests test (eqb A a) q (same_line e) in
-          let upright : cond (eqb B b) 1 0 ≡ 1 = ap (λ (t : Bool). cond t 1 0) (eq-eqb B b e) in
+          let upright : cond (eqb B b) 1 0 ≡ 1 = cc (eq-eqb B b e) in
           let both : cond (eqb A a && eqb B b) 1 0 ≡ cond (eqb A a) 1 0 =
-          ap (λ (t : Bool). cond (eqb A a && t) 1 0) (eq-eqb B b e) ∙ and_true (eqb A a) in
+          cc (eq-eqb B b e, and_true (eqb A a)) in
           above_sum q _ _ _ (cond (eqb A a) 1 0) all upright both
       | inr ne ↦
-          let one : sum_by (λ c. cond (test c) 1 0) (codes_of q) ≡ 1 =
+          let one =
           one_test test slope q (f.mul_code (add q a (minus_one A)) (inv q (add q b (minus_one B)))) (one_line ne) in
-          let upright : cond (eqb B b) 1 0 ≡ 0 = ap (λ (t : Bool). cond t 1 0) (ne_eqb B b ne) in
+          let upright : cond (eqb B b) 1 0 ≡ 0 = cc (ne_eqb B b ne) in
           let none : cond (eqb A a && eqb B b) 1 0 ≡ 0 =
-          ap (λ (t : Bool). cond (eqb A a && t) 1 0) (ne_eqb B b ne) ∙ and_false (eqb A a) in
+          cc (ne_eqb B b ne, and_false (eqb A a)) in
           apart_sum q _ _ _ one upright none
     ]
       where
@@ -179,16 +184,17 @@ module _ (q : ℕ) (f : IsField q) where
     counted_lines : (rows : List (List ℕ))
         → sum_by (λ c. count_by (on c) rows) (codes_of q) + count_of q v b rows
         ≡ length rows + q * joint_count q rows u v a b
-    counted_lines [] = let z = sum_by-zero (codes_of q) in omega (arith, z)
+    counted_lines [] = let z = sum_by-zero (codes_of q) in omega arith
     counted_lines (x ∷ rows) =
         let here : sum_by (λ c. cond (on c x) 1 0) (codes_of q) + cond (eqb (dot q v x) b) 1 0
         ≡ 1 + q * cond (eqb (dot q u x) a && eqb (dot q v x) b) 1 0 =
-        ap (λ (n : ℕ). n + cond (eqb (dot q v x) b) 1 0)
-        (sum_by-ext (λ c. cond (on c x) 1 0)
-        (λ c. cond (test (dot q u x) (dot q v x) a b (dot_code q f u x) (dot_code q f v x) ha hb c) 1 0)
-        (codes_of q)
-        (λ c. ap (λ (y : ℕ). cond (eqb y (line c)) 1 0) (dot-minus q f u v c x)))
-        ∙ lines_at (dot q u x) (dot q v x) a b (dot_code q f u x) (dot_code q f v x) ha hb in
+        cc (
+          sum_by-ext (λ c. cond (on c x) 1 0)
+              (λ c. cond (test (dot q u x) (dot q v x) a b (dot_code q f u x) (dot_code q f v x) ha hb c) 1 0)
+              (codes_of q)
+              (λ c. ap (λ (y : ℕ). cond (eqb y (line c)) 1 0) (dot-minus q f u v c x)),
+          lines_at (dot q u x) (dot q v x) a b (dot_code q f u x) (dot_code q f v x) ha hb,
+        ) in
         let sums : sum_by (λ c. count_by (on c) (x ∷ rows)) (codes_of q)
         ≡ sum_by (λ c. cond (on c x) 1 0) (codes_of q) + sum_by (λ c. count_by (on c) rows) (codes_of q) =
         sum_by-ext (λ c. count_by (on c) (x ∷ rows)) (λ c. cond (on c x) 1 0 + count_by (on c) rows) (codes_of q)
@@ -203,28 +209,29 @@ module _ (q : ℕ) (f : IsField q) where
         (bv : q * count_of q v b rows ≡ length rows)
         (each : (c : ℕ) → c < q → q * count_of q (off c) (line c) rows ≡ length rows) where
       some : 0 < q
-      some = omega (arith, f.more_than_one)
+      some = omega arith
 
       pub crossing : length rows * joint_count q rows u v a b ≡ count_of q u a rows * count_of q v b rows
       crossing =
-          let n : ℕ = count_of q v b rows in
-          let j : ℕ = joint_count q rows u v a b in
-          let left : count_of q u a rows ≡ n = eq_of_mul-eq-mul_left q some (count_of q u a rows) n (bu ∙ sym bv) in
+          let n = count_of q v b rows in
+          let j = joint_count q rows u v a b in
+          let left = eq_of_mul-eq-mul_left q some (count_of q u a rows) n (bu ∙ sym bv) in
           let lines : sum_by (λ c. count_by (on c) rows) (codes_of q) ≡ q * n =
           sum_by-same (λ c. count_by (on c) rows) (λ c. n) 0 q
           (λ c low high. eq_of_mul-eq-mul_left q some (count_by (on c) rows) n (each c (omega arith) ∙ sym bv))
           ∙ sum_const n 0 q in
           let all = counted_lines rows in
-          let once : n ≡ q * j = omega (arith, all, lines, bv) in
-          ap (λ (m : ℕ). m * j) (sym bv) ∙ mul_assoc q n j ∙ mul_left_comm q n j ∙ ap₂ (λ (x y : ℕ). x * y) (sym left)
-          (sym once)
+          let once : n ≡ q * j = omega arith in
+          cc (mul_assoc q n j, mul_left_comm q n j)
 
 -- a balanced vector has each value on one in q rows
 pub balanced_count : (q : ℕ) → IsField q → (w : List ℕ) (rows : List (List ℕ)) → IsBalanced q w rows → (y : ℕ) → y < q
     → q * count_of q w y rows ≡ length rows
 balanced_count q f w rows h y low =
-    sym (sum_const (count_of q w y rows) 0 q)
-    ∙ sym (sum_by-same (λ z. count_by (λ x. eqb (dot q w x) z) rows) (λ z. count_of q w y rows) 0 q
-    (λ z from to. h.same z y (omega arith) low))
-    ∙ total (dot q w) q rows
-    (All-from_get_or (λ x. dot q w x < q) rows [] (λ k there. dot_code q f w (get_or rows k [])))
+    cc (
+      sum_const (count_of q w y rows) 0 q,
+      sum_by-same (λ z. count_by (λ x. eqb (dot q w x) z) rows) (λ z. count_of q w y rows) 0 q
+          (λ z from to. h.same z y (omega arith) low),
+      total (dot q w) q rows
+          (All-from_get_or (λ x. dot q w x < q) rows [] (λ k there. dot_code q f w (get_or rows k []))),
+    )

@@ -1,6 +1,6 @@
 -- The first 4,098 records tell the first fault, and where there is none they are all.
 use Rattle.std.proofs.Common.{ℕ, zero, suc, ◌≡◌, ◌≤◌, ◌+◌, Bool, true, false, not, cond, eqb, List, [], ◌∷◌, length}
-use Rattle.std.proofs.Common.{take, drop, Option, Some, None, refl, sym, ◌∙◌, ap, ap₂, arith, inl, inr}
+use Rattle.std.proofs.Common.{take, drop, Option, Some, None, refl, sym, ◌∙◌, arith, inl, inr}
 use Rattle.std.specs.Prelude.{nat_lt, Result, Ok, Err, IfOk}
 use Rattle.std.proofs.lemmas.Bool.{cases_eq, eq-eqb, ne_eqb, cond-true}
 use Rattle.std.proofs.lemmas.List.{take_all}
@@ -22,14 +22,10 @@ module _ (q : ℕ) (head : List (List ℕ)) where
       → row_fault q head n (take (suc k) rows) ≡ row_fault q head n rows
   cut k n [] e = refl
   cut zero n (row ∷ rows) e =
-      let here : eqb n 4098 ≡ true = eq-eqb n 4098 (omega arith) in
-      cond-true (eqb n 4098) (Some (plan_fault 7 n)) _ here ∙ sym
-      (cond-true (eqb n 4098) (Some (plan_fault 7 n)) _ here)
+      let here = eq-eqb n 4098 (omega arith) in
+      cc (cond-true (eqb n 4098) (Some (plan_fault 7 n)) _ here)
   cut (suc k) n (row ∷ rows) e =
-      ap (λ (x : Option PlanFault). cond (eqb n 4098) (Some (plan_fault 7 n))
-      (cond (not (eqb (length row) (length head))) (Some (plan_fault 4 n))
-      (cond (not (are_values q (drop (unread_columns head) row))) (Some (plan_fault 5 n)) x)))
-      (cut k (n + 1) rows (omega arith))
+      cc (cut k (n + 1) rows (omega arith))
 
   -- rows without a fault are at most 4,096
   pub none_short : (n : ℕ) (rows : List (List (List ℕ))) → n ≤ 4098 → row_fault q head n rows ≡ None
@@ -57,10 +53,7 @@ cut_at : (q n : ℕ) (records : List (List (List ℕ))) → 2 + n ≡ 4098
     → first_fault q (take (suc (suc n)) records) ≡ first_fault q records
 cut_at q n [] e = refl
 cut_at q n (head ∷ rows) e =
-    ap₂ (λ (b : Bool) (x : Option PlanFault). cond (not (are_names (factor_names head))) (Some (plan_fault 3 1))
-    (cond (nat_lt 300 (component_total q (length (factor_names head)))) (Some (plan_fault 6 1))
-    (cond b (Some (plan_fault 2 2)) x)))
-    (same_end n rows) (cut q head n 2 rows e)
+    cc (same_end n rows, cut q head n 2 rows e)
 
 pub first_cut : (q : ℕ) (records : List (List (List ℕ))) → first_fault q (take 4098 records) ≡ first_fault q records
 first_cut q records = cut_at q 4096 records refl

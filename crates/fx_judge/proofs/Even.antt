@@ -1,6 +1,6 @@
 -- A plan is regular exactly where each combination of codes at the basic factors comes equally often.
-use Rattle.std.proofs.Common.{ℕ, zero, suc, ◌≡◌, ◌<◌, ◌≤◌, ◌+◌, ◌^◌, Bool, true, false, cond, ◌&&◌, ◌||◌, eqb, List, []}
-use Rattle.std.proofs.Common.{◌∷◌, length, drop, get_or, refl, sym, subst, ◌∙◌, ap, ap₂, arith, inl, inr}
+use Rattle.std.proofs.Common.{ℕ, zero, suc, ◌≡◌, ◌<◌, ◌≤◌, ◌+◌, ◌^◌, Bool, true, false, cond, ◌&&◌, eqb, List, []}
+use Rattle.std.proofs.Common.{◌∷◌, length, get_or, refl, sym, subst, ◌∙◌, ap, arith, inl, inr}
 use Rattle.std.specs.Prelude.{count_by}
 use Rattle.std.specs.List.{All, AllByRecursion, list_all, list_any}
 use Rattle.std.proofs.lemmas.Bool.{cases_Bool, eq-eqb, eqb-true, and_parts, and_from}
@@ -8,7 +8,7 @@ use Rattle.std.proofs.lemmas.List.{ext_get_or, get_or_read}
 use Rattle.std.proofs.lemmas.List.Sums.{sum_by-cons, AllPass-from_list_all, list_all-from_AllPass}
 use Rattle.std.proofs.lemmas.List.Folds.{list_any_at, Any-from_list_any}
 use Rattle.std.proofs.lemmas.List.Elements.{All-get_or, All-from_get_or, All-head, All-tail, recursion_from_All}
-use Rattle.fx_designs.specs.Galois.{IsField, number, digits, codes_of}
+use Rattle.fx_designs.specs.Galois.{IsField, digits, codes_of}
 use Rattle.fx_designs.specs.Vectors.{IsVector, dot, plus, same, scale, zeros, combination}
 use Rattle.fx_laws.specs.Changes.{unit}
 use Rattle.fx_laws.proofs.Codes.{digits-number, number-digits, number-below, digits-vector}
@@ -22,6 +22,7 @@ use Rattle.fx_judge.proofs.Pigeons.{enough}
 use Rattle.fx_judge.proofs.Bases.{IsClosed, IsMade, IsStage, dot_unit, dot_where, same_closed, off_basics, marked}
 use Rattle.fx_judge.proofs.Bases.{column_len}
 use Rattle.fx_judge.proofs.Growing.{made_combination, made_item, made_sum, levels_unit}
+use Rattle.fx_laws.proofs.Weights.{same-true, same-self}
 
 -- codes at the marked places, and zeros between
 abbrev pub spread : List Bool → List ℕ → List ℕ
@@ -56,7 +57,7 @@ pub at_spread : (marks : List Bool) (t : List ℕ) → length t ≡ rank marks �
 at_spread [] [] h = refl
 at_spread [] (c ∷ t) h = absurd (omega arith)
 at_spread (true ∷ marks) [] h = absurd (omega arith)
-at_spread (true ∷ marks) (c ∷ t) h = ap (λ (l : List ℕ). c ∷ l) (at_spread marks t (omega arith))
+at_spread (true ∷ marks) (c ∷ t) h = cc (at_spread marks t (omega arith))
 at_spread (false ∷ marks) t h = at_spread marks t h
 
 at_same : (marks : List Bool) (v w : List ℕ) → length v ≡ length marks → length w ≡ length marks
@@ -65,7 +66,7 @@ at_same [] v w hv hw h = refl
 at_same (m ∷ marks) [] w hv hw h = absurd (omega arith)
 at_same (m ∷ marks) (c ∷ v) [] hv hw h = absurd (omega arith)
 at_same (true ∷ marks) (c ∷ v) (d ∷ w) hv hw h =
-    ap₂ (λ (a : ℕ) (l : List ℕ). a ∷ l) (h 0 refl) (at_same marks v w (omega arith) (omega arith) (λ k e. h (suc k) e))
+    cc (h 0 refl, at_same marks v w (omega arith) (omega arith) (λ k e. h (suc k) e))
 at_same (false ∷ marks) (c ∷ v) (d ∷ w) hv hw h = at_same marks v w (omega arith) (omega arith) (λ k e. h (suc k) e)
 
 at_apart : (marks : List Bool) (v w : List ℕ) → length v ≡ length marks → length w ≡ length marks
@@ -74,51 +75,41 @@ at_apart : (marks : List Bool) (v w : List ℕ) → length v ≡ length marks �
 at_apart [] v w hv hw e k m = cc m
 at_apart (b ∷ marks) [] w hv hw e k m = absurd (omega arith)
 at_apart (b ∷ marks) (c ∷ v) [] hv hw e k m = absurd (omega arith)
-at_apart (true ∷ marks) (c ∷ v) (d ∷ w) hv hw e zero m = ap (λ (l : List ℕ). get_or l 0 0) e
+at_apart (true ∷ marks) (c ∷ v) (d ∷ w) hv hw e zero m = cc
 at_apart (true ∷ marks) (c ∷ v) (d ∷ w) hv hw e (suc k) m =
-    at_apart marks v w (omega arith) (omega arith) (ap (λ (l : List ℕ). drop 1 l) e) k m
+    at_apart marks v w (omega arith) (omega arith) (cc) k m
 at_apart (false ∷ marks) (c ∷ v) (d ∷ w) hv hw e zero m = cc m
 at_apart (false ∷ marks) (c ∷ v) (d ∷ w) hv hw e (suc k) m = at_apart marks v w (omega arith) (omega arith) e k m
-
-pub same_is : (v w : List ℕ) → same v w ≡ true → v ≡ w
-same_is [] [] e = refl
-same_is [] (b ∷ w) e = cc e
-same_is (a ∷ v) [] e = cc e
-same_is (a ∷ v) (b ∷ w) e =
-    let parts = and_parts (eqb a b) (same v w) e in
-    ap₂ (λ (x : ℕ) (l : List ℕ). x ∷ l) (eqb-true a b parts.0) (same_is v w parts.1)
-
-pub same_self : (v : List ℕ) → same v v ≡ true
-same_self [] = refl
-same_self (a ∷ v) = and_from (eqb a a) (same v v) (eq-eqb a a refl) (same_self v)
 
 pub count_agree : (p r : List ℕ → Bool) (xs : List (List ℕ)) → All (λ x. p x ≡ r x) xs → count_by p xs ≡ count_by r xs
 count_agree p r [] h = refl
 count_agree p r (x ∷ xs) h =
-    sum_by-cons (λ x. cond (p x) 1 0) x xs
-    ∙ ap₂ (λ (b : Bool) (n : ℕ). cond b 1 0 + n) (All-head (λ x. p x ≡ r x) x xs h)
-    (count_agree p r xs (All-tail (λ x. p x ≡ r x) x xs h))
-    ∙ sym (sum_by-cons (λ x. cond (r x) 1 0) x xs)
+    cc (
+      sum_by-cons (λ x. cond (p x) 1 0) x xs,
+      All-head (λ x. p x ≡ r x) x xs h,
+      count_agree p r xs (All-tail (λ x. p x ≡ r x) x xs h),
+      sum_by-cons (λ x. cond (r x) 1 0) x xs,
+    )
 
 pub counted_some : (p : List ℕ → Bool) (xs : List (List ℕ)) → 1 ≤ count_by p xs → list_any p xs ≡ true
 counted_some p [] h = absurd (omega arith)
 counted_some p (x ∷ xs) h = elim (cases_Bool (p x)) [
-  | inl t ↦ ap (λ (b : Bool). b || list_any p xs) t
+  | inl t ↦ cc
   | inr n ↦
       let rest : count_by p (x ∷ xs) ≡ count_by p xs =
       sum_by-cons (λ x. cond (p x) 1 0) x xs ∙ ap (λ (b : Bool). cond b 1 0 + count_by p xs) n ∙ omega arith in
-      ap (λ (b : Bool). b || list_any p xs) n ∙ counted_some p xs (omega (arith, rest))
+      cc (counted_some p xs (omega (arith, rest)))
 ]
 
 -- the place of a vector that is among others
 place_in : (D : List (List ℕ)) (x : List ℕ) → is_one_of D x ≡ true → (k : ℕ) × (k < length D) × (get_or D k [] ≡ x)
 place_in D x e =
     let any = Any-from_list_any (same x) D e in
-    let is : x ≡ any.1 = same_is x any.1 any.4 in
+    let is = same-true x any.1 any.4 in
     (any.0, any.2, sym (get_or_read D any.0 any.1 any.2 (sym any.3) []) ∙ sym is)
 
 in_place : (D : List (List ℕ)) (k : ℕ) (x : List ℕ) → k < length D → get_or D k [] ≡ x → is_one_of D x ≡ true
-in_place D k x h e = list_any_at (same x) D k [] h (subst (λ (y : List ℕ). same x y ≡ true) (sym e) (same_self x))
+in_place D k x h e = list_any_at (same x) D k [] h (rw e (same-self x))
 
 module _ (q : ℕ) (f : IsField q) (s : ℕ) (D rows : List (List ℕ)) (basic : List Bool) (hd : All (λ d. IsVector q s d) D)
     (stage : IsStage q s D rows basic s) (made_zeros : IsMade q D (zeros s)) (some : 0 < length D) where
@@ -126,7 +117,7 @@ module _ (q : ℕ) (f : IsField q) (s : ℕ) (D rows : List (List ℕ)) (basic :
   counted z = count_by (λ d. eqb (basic_key q basic d) z) D
 
   pub wide : (v : List ℕ) → IsVector q s v → IsVector q (length basic) v
-  wide v h = subst (λ (n : ℕ). IsVector q n v) (sym stage.marks) h
+  wide v h = rw stage.marks h
 
   pub item_vector : (k : ℕ) → k < length D → IsVector q s (get_or D k [])
   item_vector k h = All-get_or (λ d. IsVector q s d) D k [] h hd
@@ -137,8 +128,10 @@ module _ (q : ℕ) (f : IsField q) (s : ℕ) (D rows : List (List ℕ)) (basic :
   key_apart : (v w : List ℕ) → IsVector q s v → IsVector q s w → basic_key q basic v ≡ basic_key q basic w
       → at basic v ≡ at basic w
   key_apart v w hv hw e =
-      sym (digits-number q (rank basic) (at basic v) (at_vector q basic v (wide v hv))) ∙ ap (digits q (rank basic)) e
-      ∙ digits-number q (rank basic) (at basic w) (at_vector q basic w (wide w hw))
+      cc (
+        digits-number q (rank basic) (at basic v) (at_vector q basic v (wide v hv)),
+        digits-number q (rank basic) (at basic w) (at_vector q basic w (wide w hw)),
+      )
 
   -- what is made of the differences follows the rules
   follows : (x : List ℕ) → IsVector q s x → IsMade q D x → (j : ℕ) → j < s → dot q (column j rows) x ≡ get_or x j 0
@@ -146,7 +139,7 @@ module _ (q : ℕ) (f : IsField q) (s : ℕ) (D rows : List (List ℕ)) (basic :
       eqb-true _ _
       (m.passes (λ y. eqb (dot q (column j rows) y) (dot q (unit s j) y)) (same_closed q f (column j rows) (unit s j))
       (All-from_get_or (λ y. eqb (dot q (column j rows) y) (dot q (unit s j) y) ≡ true) D [] (λ k h.
-      let d : List ℕ = get_or D k [] in
+      let d = get_or D k [] in
       eq-eqb _ _ (All-get_or (λ d. dot q (column j rows) d ≡ get_or d j 0) D k [] h (stage.rules j hj)
       ∙ sym (dot_unit q f s j d (item_vector k h) hj) ∙ dot_comm q f d (unit s j)))))
       ∙ dot_comm q f (unit s j) x ∙ dot_unit q f s j x hx hj
@@ -154,7 +147,7 @@ module _ (q : ℕ) (f : IsField q) (s : ℕ) (D rows : List (List ℕ)) (basic :
   -- and its codes at the basic factors determine it
   pub determined : (x y : List ℕ) → IsVector q s x → IsVector q s y → IsMade q D x → IsMade q D y
       → basic_key q basic x ≡ basic_key q basic y → x ≡ y
-  determined x y hx hy mx my e = ext_get_or 0 x y (hx.len ∙ sym hy.len) (λ j short. entry j (omega (arith, hx.len)))
+  determined x y hx hy mx my e = ext_get_or 0 x y (hx.len ∙ sym hy.len) (λ j short. entry j (omega arith))
     where
       entry : (j : ℕ) → j < s → get_or x j 0 ≡ get_or y j 0
       entry j hj =
@@ -176,12 +169,12 @@ module _ (q : ℕ) (f : IsField q) (s : ℕ) (D rows : List (List ℕ)) (basic :
   made_of z = combination q s (point z) rows
 
   positive : 0 < q
-  positive = omega (arith, f.more_than_one)
+  positive = omega arith
 
   point_vector : (z : ℕ) → IsVector q s (point z)
   point_vector z =
-      subst (λ (n : ℕ). IsVector q n (point z)) stage.marks
-      (spread_vector q basic (digits q (rank basic) z) positive (digits-vector q (rank basic) z positive).codes)
+      rw stage.marks at (spread_vector q basic (digits q (rank basic) z) positive
+      (digits-vector q (rank basic) z positive).codes)
 
   pub made_vector : (z : ℕ) → IsVector q s (made_of z)
   made_vector z = combination-vector q s f (point z) rows (recursion_from_All (λ r. IsVector q s r) rows stage.vectors)
@@ -191,26 +184,27 @@ module _ (q : ℕ) (f : IsField q) (s : ℕ) (D rows : List (List ℕ)) (basic :
 
   pub made_key : (z : ℕ) → z < q ^ rank basic → basic_key q basic (made_of z) ≡ z
   made_key z low =
-      ap (number q)
-      (at_same basic (made_of z) (point z) (wide (made_of z) (made_vector z)).len (wide (point z) (point_vector z)).len
-      (λ k t.
-      let hk : k < s = marked q f s D rows basic s hd stage k t in
-      sym (dot_unit q f s k (made_of z) (made_vector z) hk) ∙ sym (dot-levels q f s (point z) rows (unit s k))
-      ∙ ap (dot q (point z)) (levels_unit q f s k rows stage.vectors hk ∙ stage.units k hk t) ∙ dot_unit q f s k
-      (point z) (point_vector z) hk)
-      ∙ at_spread basic (digits q (rank basic) z) (digits-vector q (rank basic) z positive).len)
-      ∙ number-digits q (rank basic) z positive low
+      cc (
+        at_same basic (made_of z) (point z) (wide (made_of z) (made_vector z)).len
+            (wide (point z) (point_vector z)).len
+            (λ k t. let hk : k < s = marked q f s D rows basic s hd stage k
+            t in sym (dot_unit q f s k (made_of z) (made_vector z) hk)
+            ∙ sym (dot-levels q f s (point z) rows (unit s k))
+            ∙ ap (dot q (point z)) (levels_unit q f s k rows stage.vectors hk ∙ stage.units k hk t)
+            ∙ dot_unit q f s k (point z) (point_vector z) hk),
+        at_spread basic (digits q (rank basic) z) (digits-vector q (rank basic) z positive).len,
+        number-digits q (rank basic) z positive low,
+      )
 
   -- as often as its key
   as_key : (x : List ℕ) → IsVector q s x → IsMade q D x → counted (basic_key q basic x) ≡ count_by (same x) D
   as_key x hx mx =
       count_agree (λ d. eqb (basic_key q basic d) (basic_key q basic x)) (same x) D
       (All-from_get_or (λ d. eqb (basic_key q basic d) (basic_key q basic x) ≡ same x d) D [] (λ k h.
-      let d : List ℕ = get_or D k [] in
+      let d = get_or D k [] in
       bool_same (eqb (basic_key q basic d) (basic_key q basic x)) (same x d)
-      (λ t. subst (λ (y : List ℕ). same x y ≡ true)
-      (sym (determined d x (item_vector k h) hx (made_item q f D k h) mx (eqb-true _ _ t))) (same_self x))
-      (λ t. eq-eqb _ _ (ap (basic_key q basic) (sym (same_is x d t))))))
+      (λ t. rw (determined d x (item_vector k h) hx (made_item q f D k h) mx (eqb-true _ _ t)) (same-self x))
+      (λ t. eq-eqb _ _ (ap (basic_key q basic) (sym (same-true x d t))))))
 
   closed_test : are_closed q D ≡ true → IsClosed q (is_one_of D)
   unfolding are_closed
@@ -226,8 +220,7 @@ module _ (q : ℕ) (f : IsField q) (s : ℕ) (D rows : List (List ℕ)) (basic :
         All-get_or (λ v. list_all (inner (get_or D a.0 []) v) (codes_of q) ≡ true) D b.0 [] b.1
         (AllPass-from_list_all (λ v. list_all (inner (get_or D a.0 []) v) (codes_of q)) D first) in
         let third = (range_decides (inner (get_or D a.0 []) (get_or D b.0 [])) q).0 second c h in
-        subst (λ (w : List ℕ). is_one_of D (plus q u (scale q c w)) ≡ true) b.2
-        (subst (λ (u : List ℕ). is_one_of D (plus q u (scale q c (get_or D b.0 []))) ≡ true) a.2 third);
+        rw b.2 at (subst (λ (u : List ℕ). is_one_of D (plus q u (scale q c (get_or D b.0 []))) ≡ true) a.2 third);
   }
 
   all_among : All (λ d. is_one_of D d ≡ true) D
@@ -251,8 +244,12 @@ module _ (q : ℕ) (f : IsField q) (s : ℕ) (D rows : List (List ℕ)) (basic :
       as_often z low =
           let parts = and_parts (are_closed q D) (are_even D) e in
           let here = place_in D (made_of z) ((made_made z).passes (is_one_of D) (closed_test parts.0) all_among) in
-          ap counted (sym (made_key z low)) ∙ as_key (made_of z) (made_vector z) (made_made z)
-          ∙ ap (λ (x : List ℕ). count_by (same x) D) (sym here.2) ∙ even_at parts.1 here.0 0 here.1 some
+          cc (
+            made_key z low,
+            as_key (made_of z) (made_vector z) (made_made z),
+            here.2,
+            even_at parts.1 here.0 0 here.1 some,
+          )
 
   pub regular_if_even : AreEven q basic D → (are_closed q D && are_even D) ≡ true
   unfolding are_closed are_even
@@ -271,8 +268,12 @@ module _ (q : ℕ) (f : IsField q) (s : ℕ) (D rows : List (List ℕ)) (basic :
       list_all-from_AllPass (λ v. eqb (count_by (same (get_or D k [])) D) (count_by (same v) D)) D
       (All-from_get_or (λ v. eqb (count_by (same (get_or D k [])) D) (count_by (same v) D) ≡ true) D [] (λ n hn.
       eq-eqb _ _
-      (sym (as_key (get_or D k []) (item_vector k hk) (made_item q f D k hk)) ∙ level k hk ∙ sym (level n hn) ∙ as_key
-      (get_or D n []) (item_vector n hn) (made_item q f D n hn)))))))
+      (cc (
+        as_key (get_or D k []) (item_vector k hk) (made_item q f D k hk),
+        level k hk,
+        level n hn,
+        as_key (get_or D n []) (item_vector n hn) (made_item q f D n hn),
+      )))))))
     where
       level : (k : ℕ) → (hk : k < length D) → counted (basic_key q basic (get_or D k [])) ≡ counted 0
       level k hk = h.each (basic_key q basic (get_or D k [])) (key_low (get_or D k []) (item_vector k hk))
@@ -280,31 +281,31 @@ module _ (q : ℕ) (f : IsField q) (s : ℕ) (D rows : List (List ℕ)) (basic :
       sum_there : (k n c : ℕ) → k < length D → n < length D → c < q
           → is_one_of D (plus q (get_or D k []) (scale q c (get_or D n []))) ≡ true
       sum_there k n c hk hn hc =
-          let u : List ℕ = get_or D k [] in
-          let v : List ℕ = get_or D n [] in
-          let x : List ℕ = plus q u (scale q c v) in
-          let hx : IsVector q s x =
+          let u = get_or D k [] in
+          let v = get_or D n [] in
+          let x = plus q u (scale q c v) in
+          let hx =
           plus-vector q s f u (scale q c v) (item_vector k hk) (scale-vector q s f c v (item_vector n hn)) in
-          let mx : IsMade q D x = made_sum q f D u v c hc (made_item q f D k hk) (made_item q f D n hn) in
-          let here : 1 ≤ counted (basic_key q basic u) =
+          let mx = made_sum q f D u v c hc (made_item q f D k hk) (made_item q f D n hn) in
+          let here =
           counted_once (λ d. eqb (basic_key q basic d) (basic_key q basic u)) D k [] hk (eq-eqb _ _ refl) in
           let there : 1 ≤ counted (basic_key q basic x) =
-          omega (arith, here, level k hk, h.each (basic_key q basic x) (key_low x hx)) in
+          omega (arith, level k hk, h.each (basic_key q basic x) (key_low x hx)) in
           let any = Any-from_list_any (λ d. eqb (basic_key q basic d) (basic_key q basic x)) D
           (counted_some (λ d. eqb (basic_key q basic d) (basic_key q basic x)) D there) in
-          let read : any.1 ≡ get_or D any.0 [] = get_or_read D any.0 any.1 any.2 (sym any.3) [] in
+          let read = get_or_read D any.0 any.1 any.2 (sym any.3) [] in
           in_place D any.0 x any.2
           (determined (get_or D any.0 []) x (item_vector any.0 any.2) hx (made_item q f D any.0 any.2) mx
-          (ap (basic_key q basic) (sym read) ∙ eqb-true _ _ any.4))
+          (cc (eqb-true _ _ any.4)))
 
   -- there are at least as many rows as combinations of codes
   pub combinations_fit : AreEven q basic D → q ^ rank basic ≤ length D
   combinations_fit h =
-      let first : List ℕ = get_or D 0 [] in
-      let here : 1 ≤ counted (basic_key q basic first) =
+      let first = get_or D 0 [] in
+      let here =
       counted_once (λ d. eqb (basic_key q basic d) (basic_key q basic first)) D 0 [] some (eq-eqb _ _ refl) in
       let level = h.each (basic_key q basic first) (key_low first (item_vector 0 some)) in
       enough (basic_key q basic) (q ^ rank basic) D
       (All-from_get_or (λ d. basic_key q basic d < q ^ rank basic) D []
       (λ k hk. key_low (get_or D k []) (item_vector k hk)))
-      (λ z low. omega (arith, here, level, h.each z low))
+      (λ z low. omega (arith, h.each z low))

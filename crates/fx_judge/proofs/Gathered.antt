@@ -1,6 +1,6 @@
 -- A sum over items, each of which has a vector as its key, is one over all vectors.
 use Rattle.std.proofs.Common.{ℕ, zero, suc, ◌≡◌, ◌+◌, ◌*◌, Bool, true, false, cond, ◌&&◌, eqb, List, [], ◌∷◌}
-use Rattle.std.proofs.Common.{sym, ◌∙◌, ap, ap₂, arith, inl, inr, mul-add, mul-zero}
+use Rattle.std.proofs.Common.{sym, ◌∙◌, ap, arith, inl, inr, mul-add, mul-zero}
 use Rattle.std.specs.Prelude.{count_by}
 use Rattle.std.specs.List.{All, sum_by}
 use Rattle.std.proofs.lemmas.Bool.{cases_eq, eq-eqb, ne_eqb}
@@ -18,8 +18,7 @@ sum_agree f g xs h = sum_by-each f g xs (recursion_from_All (λ x. f x ≡ g x) 
 pub sum_times : {X : Type 0} (k : ℕ) (f : X → ℕ) (xs : List X) → sum_by (λ x. k * f x) xs ≡ k * sum_by f xs
 sum_times k f [] = omega arith
 sum_times k f (x ∷ xs) =
-    sum_by-cons (λ x. k * f x) x xs ∙ ap (λ (n : ℕ). k * f x + n) (sum_times k f xs)
-    ∙ sym (mul-add k (f x) (sum_by f xs)) ∙ ap (λ (n : ℕ). k * n) (sym (sum_by-cons f x xs))
+    cc (sum_by-cons (λ x. k * f x) x xs, sum_times k f xs, mul-add k (f x) (sum_by f xs), sum_by-cons f x xs)
 
 -- of the points with this first code
 pick_at : (q n c a : ℕ) (v : List ℕ) (g : List ℕ → ℕ)
@@ -27,13 +26,18 @@ pick_at : (q n c a : ℕ) (v : List ℕ) (g : List ℕ → ℕ)
     → sum_by (λ p. cond (eqb a c && same v p) (g (c ∷ p)) 0) (points q n) ≡ cond (eqb c a) (g (a ∷ v)) 0
 pick_at q n c a v g rest = elim (cases_eq c a) [
   | inl e ↦
-      sum_by-ext (λ p. cond (eqb a c && same v p) (g (c ∷ p)) 0) (λ p. cond (same v p) (g (c ∷ p)) 0) (points q n)
-      (λ p. ap (λ (b : Bool). cond (b && same v p) (g (c ∷ p)) 0) (eq-eqb a c (sym e)))
-      ∙ rest ∙ ap (λ (c : ℕ). g (c ∷ v)) e ∙ sym (ap (λ (b : Bool). cond b (g (a ∷ v)) 0) (eq-eqb c a e))
+      cc (
+        sum_by-ext (λ p. cond (eqb a c && same v p) (g (c ∷ p)) 0) (λ p. cond (same v p) (g (c ∷ p)) 0) (points q n)
+            (λ p. ap (λ (b : Bool). cond (b && same v p) (g (c ∷ p)) 0) (eq-eqb a c (sym e))),
+        eq-eqb c a e,
+      )
   | inr ne ↦
-      sum_by-ext (λ p. cond (eqb a c && same v p) (g (c ∷ p)) 0) (λ p. 0) (points q n)
-      (λ p. ap (λ (b : Bool). cond (b && same v p) (g (c ∷ p)) 0) (ne_eqb a c (λ e. ne (sym e))))
-      ∙ sum_by-zero (points q n) ∙ sym (ap (λ (b : Bool). cond b (g (a ∷ v)) 0) (ne_eqb c a ne))
+      cc (
+        sum_by-ext (λ p. cond (eqb a c && same v p) (g (c ∷ p)) 0) (λ p. 0) (points q n)
+            (λ p. ap (λ (b : Bool). cond (b && same v p) (g (c ∷ p)) 0) (ne_eqb a c (λ e. ne (sym e)))),
+        sum_by-zero (points q n),
+        ne_eqb c a ne,
+      )
 ]
 
 -- of all points
@@ -61,11 +65,13 @@ pub gathered : {X : Type 0} (q n : ℕ) (key : X → List ℕ) (g : List ℕ →
 gathered q n key g [] h =
     sym (sum_by-ext (λ p. g p * 0) (λ p. 0) (points q n) (λ p. mul-zero (g p)) ∙ sum_by-zero (points q n))
 gathered q n key g (x ∷ xs) h =
-    sum_by-cons (λ x. g (key x)) x xs
-    ∙ ap₂ (λ (a b : ℕ). a + b) (sym (points_pick q n (key x) g (All-head (λ x. IsVector q n (key x)) x xs h)))
-    (gathered q n key g xs (All-tail (λ x. IsVector q n (key x)) x xs h))
-    ∙ sym (sum_by-plus (λ p. cond (same (key x) p) (g p) 0) (λ p. g p * count_by (λ x. same (key x) p) xs) (points q n))
-    ∙ sum_by-ext (λ p. cond (same (key x) p) (g p) 0 + g p * count_by (λ x. same (key x) p) xs)
-    (λ p. g p * count_by (λ x. same (key x) p) (x ∷ xs)) (points q n)
-    (λ p. one_more (g p) (same (key x) p) (count_by (λ x. same (key x) p) xs)
-    ∙ ap (λ (k : ℕ). g p * k) (sym (sum_by-cons (λ x. cond (same (key x) p) 1 0) x xs)))
+    cc (
+      sum_by-cons (λ x. g (key x)) x xs,
+      points_pick q n (key x) g (All-head (λ x. IsVector q n (key x)) x xs h),
+      gathered q n key g xs (All-tail (λ x. IsVector q n (key x)) x xs h),
+      sum_by-plus (λ p. cond (same (key x) p) (g p) 0) (λ p. g p * count_by (λ x. same (key x) p) xs) (points q n),
+      sum_by-ext (λ p. cond (same (key x) p) (g p) 0 + g p * count_by (λ x. same (key x) p) xs)
+          (λ p. g p * count_by (λ x. same (key x) p) (x ∷ xs)) (points q n)
+          (λ p. one_more (g p) (same (key x) p) (count_by (λ x. same (key x) p) xs)
+          ∙ ap (λ (k : ℕ). g p * k) (sym (sum_by-cons (λ x. cond (same (key x) p) 1 0) x xs))),
+    )

@@ -35,11 +35,11 @@ unit_other (suc s) zero (suc k) ne = zero_at s k
     zero_at (suc s) zero = refl
     zero_at (suc s) (suc k) = zero_at s k
 unit_other (suc s) (suc j) zero ne = refl
-unit_other (suc s) (suc j) (suc k) ne = unit_other s j k (λ e. ne (ap (λ (n : ℕ). suc n) e))
+unit_other (suc s) (suc j) (suc k) ne = unit_other s j k (λ e. ne (cc e))
 
 module _ (q : ℕ) (f : IsField q) where
   some_codes : 0 < q
-  some_codes = omega (arith, f.more_than_one)
+  some_codes = omega arith
 
   neg_zero : neg q 0 ≡ 0
   neg_zero = sym (zero-add-code q f (neg q 0) (f.neg_code 0)) ∙ f.add_neg 0
@@ -65,24 +65,29 @@ module _ (q : ℕ) (f : IsField q) where
   entry : (s j c : ℕ) (r e : List ℕ) → IsVector q s r → IsVector q s e → j < s
       → get_or (plus q r (scale q c e)) j 0 ≡ add q (get_or r j 0) (mul q c (get_or e j 0))
   entry s j c r e hr he low =
-      sym (dot_unit q f s j (plus q r (scale q c e)) (plus-vector q s f r (scale q c e) hr (scale-vector q s f c e he))
-      low)
-      ∙ dot-plus q f r (scale q c e) (unit s j)
-      ∙ ap₂ (add q) (dot_unit q f s j r hr low)
-      (dot-scale q f c e (unit s j) ∙ ap (mul q c) (dot_unit q f s j e he low))
+      cc (
+        dot_unit q f s j (plus q r (scale q c e)) (plus-vector q s f r (scale q c e) hr (scale-vector q s f c e he))
+            low,
+        dot-plus q f r (scale q c e) (unit s j),
+        dot_unit q f s j r hr low,
+        dot-scale q f c e (unit s j),
+        dot_unit q f s j e he low,
+      )
 
   zero_entry : (s j : ℕ) → j < s → get_or (zeros s) j 0 ≡ 0
   zero_entry s j low = get_or-replicate s j 0 0 low
 
   value_code : (s j : ℕ) (v : List ℕ) → IsVector q s v → j < s → get_or v j 0 < q
-  value_code s j v h low = subst (λ (c : ℕ). c < q) (dot_unit q f s j v h low) (dot_code q f v (unit s j))
+  value_code s j v h low = rw (dot_unit q f s j v h low) at (dot_code q f v (unit s j))
 
   pub levels_unit : (s j : ℕ) (rows : List (List ℕ)) → All (λ r. IsVector q s r) rows → j < s
       → levels_at q rows (unit s j) ≡ column j rows
   levels_unit s j [] h low = refl
   levels_unit s j (r ∷ rows) h low =
-      ap₂ (λ (a : ℕ) (l : List ℕ). a ∷ l) (dot_unit q f s j r (All-head (λ r. IsVector q s r) r rows h) low)
-      (levels_unit s j rows (All-tail (λ r. IsVector q s r) r rows h) low)
+      cc (
+        dot_unit q f s j r (All-head (λ r. IsVector q s r) r rows h) low,
+        levels_unit s j rows (All-tail (λ r. IsVector q s r) r rows h) low,
+      )
 
   module _ (s : ℕ) (D rows : List (List ℕ)) (basic : List Bool) (i : ℕ) (hd : All (λ d. IsVector q s d) D)
       (stage : IsStage q s D rows basic i) (low : i < s) (made_zeros : IsMade q D (zeros s)) where
@@ -99,16 +104,16 @@ module _ (q : ℕ) (f : IsField q) where
       rules = λ j h. elim (cases_lt j i) [
         | inl l ↦ stage.rules j l
         | inr g ↦ let is : i ≡ j = omega arith in
-            subst (λ (j : ℕ). All (λ d. dot q (column j rows) d ≡ get_or d j 0) D) is (given e)
+            rw is at (given e)
       ];
       units = λ j h t. elim (cases_lt j i) [
-        | inl l ↦ stage.units j l (sym (get_or_append_left basic (false ∷ []) false j (omega (arith, stage.marks))) ∙ t)
-        | inr g ↦ let is : length basic ≡ j = omega (arith, stage.marks) in
+        | inl l ↦ stage.units j l (sym (get_or_append_left basic (false ∷ []) false j (omega arith)) ∙ t)
+        | inr g ↦ let is : length basic ≡ j = omega arith in
             absurd (both_ways _ (get_or_push basic false false j is) t)
       ];
       zero = λ k h m. elim (cases_lt k i) [
-        | inl l ↦ stage.zero k h (sym (get_or_append_left basic (false ∷ []) false k (omega (arith, stage.marks))) ∙ m)
-        | inr g ↦ stage.zero k h (get_or_past basic k false (omega (arith, stage.marks)))
+        | inl l ↦ stage.zero k h (sym (get_or_append_left basic (false ∷ []) false k (omega arith)) ∙ m)
+        | inr g ↦ stage.zero k h (get_or_past basic k false (omega arith))
       ];
     }
       where
@@ -146,17 +151,22 @@ module _ (q : ℕ) (f : IsField q) where
 
       off_at : (j : ℕ) → j < s → get_or off j 0 ≡ add q (get_or d j 0) (mul q (neg q 1) (dot q (column j rows) d))
       off_at j h =
-          entry s j (neg q 1) d (combination q s d rows) d_vector comb_vector h
-          ∙ ap (λ (x : ℕ). add q (get_or d j 0) (mul q (neg q 1) x))
-          (sym (dot_unit q f s j (combination q s d rows) comb_vector h) ∙ sym (dot-levels q f s d rows (unit s j)) ∙ ap
-          (dot q d) (levels_unit s j rows stage.vectors h) ∙ dot_comm q f d (column j rows))
+          cc (
+            entry s j (neg q 1) d (combination q s d rows) d_vector comb_vector h,
+            dot_unit q f s j (combination q s d rows) comb_vector h,
+            dot-levels q f s d rows (unit s j),
+            levels_unit s j rows stage.vectors h,
+            dot_comm q f d (column j rows),
+          )
 
       off_before : (j : ℕ) → j < i → get_or off j 0 ≡ 0
       off_before j h =
           let hj : j < s = omega arith in
-          off_at j hj ∙ ap (λ (x : ℕ). add q (get_or d j 0) (mul q (neg q 1) x))
-          (All-get_or (λ d. dot q (column j rows) d ≡ get_or d j 0) D k [] there (stage.rules j h))
-          ∙ less q f (get_or d j 0) (value_code s j d d_vector hj)
+          cc (
+            off_at j hj,
+            All-get_or (λ d. dot q (column j rows) d ≡ get_or d j 0) D k [] there (stage.rules j h),
+            less q f (get_or d j 0) (value_code s j d d_vector hj),
+          )
 
       pub off_here : get_or off i 0 ≡ 0 → ⊥
       off_here z =
@@ -167,19 +177,20 @@ module _ (q : ℕ) (f : IsField q) where
 
       e_at : (j : ℕ) → j < s → get_or e j 0 ≡ mul q (inv q (get_or off i 0)) (get_or off j 0)
       e_at j h =
-          entry s j (inv q (get_or off i 0)) (zeros s) off (zeros-vector q s f) off_vector h
-          ∙ ap (λ (x : ℕ). add q x (mul q (inv q (get_or off i 0)) (get_or off j 0))) (zero_entry s j h)
-          ∙ zero-add-code q f (mul q (inv q (get_or off i 0)) (get_or off j 0))
-          (f.mul_code (inv q (get_or off i 0)) (get_or off j 0))
+          cc (
+            entry s j (inv q (get_or off i 0)) (zeros s) off (zeros-vector q s f) off_vector h,
+            zero_entry s j h,
+            zero-add-code q f (mul q (inv q (get_or off i 0)) (get_or off j 0))
+                (f.mul_code (inv q (get_or off i 0)) (get_or off j 0)),
+          )
 
       e_before : (j : ℕ) → j < i → get_or e j 0 ≡ 0
       e_before j h =
-          e_at j (omega arith) ∙ ap (mul q (inv q (get_or off i 0))) (off_before j h) ∙ f.mul_zero
-          (inv q (get_or off i 0))
+          cc (e_at j (omega arith), off_before j h, f.mul_zero (inv q (get_or off i 0)))
 
       e_here : get_or e i 0 ≡ 1
       e_here =
-          let c : ℕ = get_or off i 0 in
+          let c = get_or off i 0 in
           let some : 0 < c = elim (cases_eq c 0) [ inl z ↦ absurd (off_here z) | inr n ↦ omega arith ] in
           e_at i low ∙ f.mul_comm (inv q c) c ∙ f.mul_inv c some (value_code s i off off_vector low)
 
@@ -192,7 +203,7 @@ module _ (q : ℕ) (f : IsField q) where
       made_e = made_sum D (zeros s) off (inv q (get_or off i 0)) (f.inv_code (get_or off i 0)) made_zeros made_off
 
       mapped_at : (n : ℕ) → n < s → get_or (map (without_part q e i) rows) n [] ≡ without_part q e i (get_or rows n [])
-      mapped_at n h = get_or-map (without_part q e i) rows n [] [] (omega (arith, stage.count))
+      mapped_at n h = get_or-map (without_part q e i) rows n [] [] (omega arith)
 
       grown_at : (n : ℕ) → n < s → (n ≡ i → ⊥) → get_or (grown q rows e i) n [] ≡ without_part q e i (get_or rows n [])
       grown_at n h ne = get_or-set_other (map (without_part q e i) rows) i n e [] ne ∙ mapped_at n h
@@ -219,8 +230,12 @@ module _ (q : ℕ) (f : IsField q) where
 
       column_same : (j : ℕ) → j < i → column j (grown q rows e i) ≡ column j rows
       column_same j h = ext_get_or 0 (column j (grown q rows e i)) (column j rows)
-          (length-map (grown q rows e i) (λ r. get_or r j 0) ∙ grown_len ∙ sym
-          (length-map rows (λ r. get_or r j 0) ∙ stage.count))
+          (cc (
+            length-map (grown q rows e i) (λ r. get_or r j 0),
+            grown_len,
+            length-map rows (λ r. get_or r j 0),
+            stage.count,
+          ))
           (λ n short. at n (omega (arith, length-map (grown q rows e i) (λ r. get_or r j 0), grown_len)))
         where
           at : (n : ℕ) → n < s → get_or (column j (grown q rows e i)) n 0 ≡ get_or (column j rows) n 0
@@ -314,29 +329,27 @@ module _ (q : ℕ) (f : IsField q) where
             (λ (b : List Bool). combination_for q s D b i) stage.basics);
         marks = length_push basic true ∙ (let m = stage.marks in omega arith);
         rules = λ j h. elim (cases_lt j i) [
-          | inl l ↦ subst (λ (u : List ℕ). All (λ d. dot q u d ≡ get_or d j 0) D) (sym (column_same j l))
-              (stage.rules j l)
+          | inl l ↦ rw (column_same j l) (stage.rules j l)
           | inr g ↦ let is : i ≡ j = omega arith in
-              subst (λ (j : ℕ). All (λ d. dot q (column j (grown q rows e i)) d ≡ get_or d j 0) D) is
-              (subst (λ (u : List ℕ). All (λ d. dot q u d ≡ get_or d i 0) D) (sym column_new)
+              rw (← is) (subst (λ (u : List ℕ). All (λ d. dot q u d ≡ get_or d i 0) D) (sym column_new)
               (All-weaker (λ d. IsVector q s d) (λ d. dot q (unit s i) d ≡ get_or d i 0)
               (λ d h. dot_comm q f (unit s i) d ∙ dot_unit q f s i d h low) D hd))
         ];
         units = λ j h t. elim (cases_lt j i) [
           | inl l ↦ column_same j l ∙ stage.units j l
-              (sym (get_or_append_left basic (true ∷ []) false j (omega (arith, stage.marks))) ∙ t)
+              (sym (get_or_append_left basic (true ∷ []) false j (omega arith)) ∙ t)
           | inr g ↦ let is : i ≡ j = omega arith in
-              subst (λ (j : ℕ). column j (grown q rows e i) ≡ unit s j) is column_new
+              rw (← is) column_new
         ];
         zero = λ n h m. elim (cases_lt n i) [
           | inl l ↦ grown_at n h (λ x. absurd (omega arith)) ∙ zero_stays n h
-              (stage.zero n h (sym (get_or_append_left basic (true ∷ []) false n (omega (arith, stage.marks))) ∙ m))
+              (stage.zero n h (sym (get_or_append_left basic (true ∷ []) false n (omega arith)) ∙ m))
           | inr g ↦ elim (cases_eq n i) [
-            | inl is ↦ let here : length basic ≡ n = omega (arith, stage.marks) in
+            | inl is ↦ let here : length basic ≡ n = omega arith in
                 absurd (both_ways _ m (get_or_push basic true false n here))
             | inr ne ↦
                 grown_at n h ne ∙ zero_stays n h
-                (stage.zero n h (get_or_past basic n false (omega (arith, stage.marks))))
+                (stage.zero n h (get_or_past basic n false (omega arith)))
           ]
         ];
       }

@@ -20,7 +20,7 @@ pub key_in : (q : ℕ) (marks : List Bool) (d : List ℕ) (i : ℕ) → 0 < i �
 key_in q marks d i some hm hd is =
     let one : i ≡ i - 1 + 1 = omega arith in
     let m : drop (i - 1) marks ≡ true ∷ drop (i - 1 + 1) marks =
-    drop_more marks (i - 1) false (omega arith) ∙ ap (λ (b : Bool). b ∷ drop (i - 1 + 1) marks) is in
+    cc (drop_more marks (i - 1) false (omega arith)) in
     ap (λ (k : ℕ). get_or d (i - 1) 0 + q * basic_key q (drop k marks) (drop k d)) one
     ∙ sym (ap₂ (basic_key q) m (drop_more d (i - 1) 0 (omega arith)))
 
@@ -30,7 +30,7 @@ pub key_out : (q : ℕ) (marks : List Bool) (d : List ℕ) (i : ℕ) → 0 < i �
 key_out q marks d i some hm hd is =
     let one : i ≡ i - 1 + 1 = omega arith in
     let m : drop (i - 1) marks ≡ false ∷ drop (i - 1 + 1) marks =
-    drop_more marks (i - 1) false (omega arith) ∙ ap (λ (b : Bool). b ∷ drop (i - 1 + 1) marks) is in
+    cc (drop_more marks (i - 1) false (omega arith)) in
     ap (λ (k : ℕ). basic_key q (drop k marks) (drop k d)) one
     ∙ sym (ap₂ (basic_key q) m (drop_more d (i - 1) 0 (omega arith)))
 
@@ -45,7 +45,7 @@ key_drop q some (suc i) (true ∷ marks) (c ∷ d) h =
     let rest = key_drop q some i marks d (omega arith) in
     let wide = mul-le-mul_left {m = 1} {n = q} (basic_key q marks d) some in
     let turn : basic_key q marks d * q ≡ q * basic_key q marks d = grind arith in
-    omega (arith, rest, wide, turn)
+    omega arith
 key_drop q some (suc i) (false ∷ marks) (c ∷ d) h = key_drop q some i marks d (omega arith)
 
 pub key_below : (q : ℕ) (marks : List Bool) (d : List ℕ) → IsVector q (length marks) d
@@ -59,30 +59,29 @@ pub key_fits : (q : ℕ) (marks : List Bool) (d : List ℕ) (i key k a : ℕ) �
 key_fits q marks d i key k a some first hi hd few is ek eq ea =
     let more : a + k * key ≡ basic_key q (drop (i - 1) marks) (drop (i - 1) d) =
     ap₂ (λ (x y : ℕ). x + y) ea (ap₂ (λ (x y : ℕ). x * y) eq ek)
-    ∙ key_in q marks d i first hi (omega (arith, hd.len)) is in
-    omega (arith, more, key_drop q some (i - 1) marks d hd.len, key_below q marks d hd, few)
+    ∙ key_in q marks d i first hi (omega arith) is in
+    omega (arith, key_drop q some (i - 1) marks d hd.len, key_below q marks d hd)
 
 -- the combinations of codes at the places before i, times those from i on
 pub size_in : (q size : ℕ) (marks : List Bool) (i : ℕ) → i < length marks → get_or marks i false ≡ true
     → size * q * q ^ rank (drop (i + 1) marks) ≡ size * q ^ rank (drop i marks)
 size_in q size marks i low is =
     let m : drop i marks ≡ true ∷ drop (i + 1) marks =
-    drop_more marks i false low ∙ ap (λ (b : Bool). b ∷ drop (i + 1) marks) is in
+    cc (drop_more marks i false low) in
     let step : q ^ rank (drop i marks) ≡ q ^ rank (drop (i + 1) marks) * q =
-    ap (λ (l : List Bool). q ^ rank l) m ∙ pow-suc q (rank (drop (i + 1) marks)) in
+    cc (pow-suc q (rank (drop (i + 1) marks))) in
     grind (arith, step)
 
 pub size_out : (q size : ℕ) (marks : List Bool) (i : ℕ) → i < length marks → get_or marks i false ≡ false
     → size * q ^ rank (drop (i + 1) marks) ≡ size * q ^ rank (drop i marks)
 size_out q size marks i low is =
-    sym (ap (λ (l : List Bool). size * q ^ rank l)
-    (drop_more marks i false low ∙ ap (λ (b : Bool). b ∷ drop (i + 1) marks) is))
+    sym (cc (drop_more marks i false low))
 
 -- they are no fewer than those at some of the places
 pub size_grows : (q size total n : ℕ) → 0 < q → size * q ^ n ≡ total → size ≤ total
 size_grows q size total n some is =
     let wide = mul-le-mul_left {m = 1} {n = q ^ n} size (one-le-pow n q some) in
-    omega (arith, is, wide)
+    omega arith
 
 module _ (q : ℕ) (marks : List Bool) (differences : List (List ℕ)) (counts : List ℕ) (first : 0 < q ^ rank marks)
     (few : q ^ rank marks ≤ 4096) (tallied : AreValueCounts 4096 (map (basic_key q marks) differences) counts) where

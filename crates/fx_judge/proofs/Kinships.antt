@@ -1,6 +1,6 @@
 -- Counts of pairs of values tell whether two components are aliased or orthogonal.
 use Rattle.std.proofs.Common.{ℕ, zero, suc, ◌≡◌, ◌<◌, ◌≤◌, ◌+◌, ◌-◌, ◌*◌, Bool, true, false, cond, ◌&&◌, eqb, List, []}
-use Rattle.std.proofs.Common.{◌∷◌, length, map, get_or, refl, sym, subst, ◌∙◌, ap, ap₂, arith, inl, inr}
+use Rattle.std.proofs.Common.{◌∷◌, length, map, get_or, refl, sym, subst, ◌∙◌, ap₂, arith, inl, inr}
 use Rattle.std.specs.Prelude.{count_by}
 use Rattle.std.specs.Bool.{Decides}
 use Rattle.std.specs.List.{list_all, range_with_len, AllByRecursion}
@@ -27,11 +27,11 @@ use Rattle.fx_judge.specs.declared.kinship.Kinship.TheVariants.{Aliased, Orthogo
 same_pair : (x y a b : ℕ) → y < 9 → b < 9 → eqb (9 * x + y) (9 * a + b) ≡ (eqb x a && eqb y b)
 same_pair x y a b hy hb =
     bool_same (eqb (9 * x + y) (9 * a + b)) (eqb x a && eqb y b)
-    (λ e. let n : 9 * x + y ≡ 9 * a + b = eqb-true _ _ e in
+    (λ e. let n = eqb-true _ _ e in
     and_from _ _ (eq-eqb x a (omega arith)) (eq-eqb y b (omega arith)))
     (λ e. let parts = and_parts (eqb x a) (eqb y b) e in
-    let l : x ≡ a = eqb-true x a parts.0 in
-    let r : y ≡ b = eqb-true y b parts.1 in
+    let l = eqb-true x a parts.0 in
+    let r = eqb-true y b parts.1 in
     eq-eqb _ _ (omega arith))
 
 -- an item that passes is counted
@@ -46,31 +46,32 @@ pub counted_never : {X : Type 0} (p : X → Bool) (xs : List X)
     → ((i : ℕ) (d : X) → i < length xs → p (get_or xs i d) ≡ false) → count_by p xs ≡ 0
 counted_never p [] h = refl
 counted_never p (x ∷ xs) h =
-    let miss : cond (p x) 1 0 ≡ 0 = cond-false (p x) 1 0 (h 0 x (omega arith)) in
-    let rest : count_by p xs ≡ 0 = counted_never p xs (λ i d l. h (suc i) d (omega arith)) in
+    let miss = cond-false (p x) 1 0 (h 0 x (omega arith)) in
+    let rest = counted_never p xs (λ i d l. h (suc i) d (omega arith)) in
     sum_by-cons (λ x. cond (p x) 1 0) x xs ∙ ap₂ (λ (a b : ℕ). a + b) miss rest
 
 module _ (q : ℕ) (f : IsField q) where
   pub less : (y : ℕ) → y < q → add q y (mul q (neg q 1) y) ≡ 0
   less y h =
-      ap₂ (add q) (sym (f.mul_one y h)) (f.mul_comm (neg q 1) y)
-      ∙ sym (f.distributes y 1 (neg q 1)) ∙ ap (mul q y) (f.add_neg 1) ∙ f.mul_zero y
+      cc (f.mul_one y h, f.mul_comm (neg q 1) y, f.distributes y 1 (neg q 1), f.add_neg 1, f.mul_zero y)
 
   -- what is added and taken off again
   pub cancelled : (k y : ℕ) → k < q → y < q → add q (add q k y) (mul q (neg q 1) y) ≡ k
-  cancelled k y hk hy = f.add_assoc k y (mul q (neg q 1) y) ∙ ap (add q k) (less y hy) ∙ f.add_zero k hk
+  cancelled k y hk hy = cc (f.add_assoc k y (mul q (neg q 1) y), less y hy, f.add_zero k hk)
 
   pub back : (a y k : ℕ) → a < q → y < q → add q a (mul q (neg q 1) y) ≡ k → a ≡ add q k y
   back a y k ha hy e =
-      sym (ap (λ (z : ℕ). add q z y) (sym e) ∙ f.add_assoc a (mul q (neg q 1) y) y ∙ ap (add q a)
-      (f.add_comm (mul q (neg q 1) y) y ∙ less y hy) ∙ f.add_zero a ha)
+      sym (cc (f.add_assoc a (mul q (neg q 1) y) y, f.add_comm (mul q (neg q 1) y) y, less y hy, f.add_zero a ha))
 
   -- the value of u - c v
   pub dot-minus : (u v : List ℕ) (c : ℕ) (x : List ℕ)
       → dot q (minus q u (scale q c v)) x ≡ add q (dot q u x) (mul q (neg q 1) (mul q c (dot q v x)))
   dot-minus u v c x =
-      dot-plus q f u (scale q (neg q 1) (scale q c v)) x ∙ ap (add q (dot q u x))
-      (dot-scale q f (neg q 1) (scale q c v) x ∙ ap (mul q (neg q 1)) (dot-scale q f c v x))
+      cc (
+        dot-plus q f u (scale q (neg q 1) (scale q c v)) x,
+        dot-scale q f (neg q 1) (scale q c v) x,
+        dot-scale q f c v x,
+      )
 
   range_codes : (a n : ℕ) → 0 < a → a + n ≤ q → AllByRecursion (λ c. (0 < c) × (c < q)) (range_with_len a n)
   range_codes a zero h k = tt
@@ -96,8 +97,7 @@ module _ (q : ℕ) (f : IsField q) where
         ∙ sum_by_map (λ z. cond (eqb z (9 * a + b)) 1 0) both rows
         ∙ sum_by-ext (λ x. cond (eqb (both x) (9 * a + b)) 1 0) (λ x. cond (eqb (dot q u x) a && eqb (dot q v x) b) 1 0)
         rows
-        (λ x. ap (λ (t : Bool). cond t 1 0)
-        (same_pair (dot q u x) (dot q v x) a b (omega (arith, dot_code q f v x)) (omega arith)))
+        (λ x. cc (same_pair (dot q u x) (dot q v x) a b (omega (arith, dot_code q f v x)) (omega arith)))
 
     -- orthogonal, by the counts
     pub orthogonal_decides : (runs : ℕ) (left right : List ℕ) → length rows ≡ runs
@@ -110,10 +110,12 @@ module _ (q : ℕ) (f : IsField q) where
         let outer = range_decides (λ a. list_all (at a) (codes_of q)) q in (
           λ e. record {
             each = λ a b ha hb.
-                ap₂ (λ (x y : ℕ). x * y) (sym len) (pair_is a b ha hb)
-                ∙ eqb-true _ _ ((range_decides (at a) q).0 (outer.0 e a ha) b hb)
-                ∙ ap₂ (λ (x y : ℕ). x * y) (sym (value_is rows u left small l a ha))
-                (sym (value_is rows v right small r b hb));
+                cc (
+                  pair_is a b ha hb,
+                  eqb-true _ _ ((range_decides (at a) q).0 (outer.0 e a ha) b hb),
+                  value_is rows u left small l a ha,
+                  value_is rows v right small r b hb,
+                );
           },
           λ h. outer.1 (λ a ha. (range_decides (at a) q).1 (λ b hb. eq-eqb _ _
               (ap₂ (λ (x y : ℕ). x * y) len (sym (pair_is a b ha hb)) ∙ h.each a b ha hb ∙ ap₂ (λ (x y : ℕ). x * y)
@@ -123,18 +125,17 @@ module _ (q : ℕ) (f : IsField q) where
     -- all pairs of values on one line
     on_line : (h : HasLine q pairs) (i : ℕ) → i < length rows → dot q (off h.factor) (get_or rows i []) ≡ h.constant
     on_line h i low =
-        let x : List ℕ = get_or rows i [] in
-        let y : ℕ = mul q h.factor (dot q v x) in
+        let x = get_or rows i [] in
+        let y = mul q h.factor (dot q v x) in
         elim (cases_eq (dot q u x) (add q h.constant y)) [
-          | inl e ↦ dot-minus u v h.factor x ∙ ap (λ (a : ℕ). add q a (mul q (neg q 1) y)) e ∙ cancelled h.constant y
-              h.value (f.mul_code h.factor (dot q v x))
+          | inl e ↦ cc (dot-minus u v h.factor x, cancelled h.constant y h.value (f.mul_code h.factor (dot q v x)))
           | inr ne ↦
-              let none : get_or pairs (both x) 0 ≡ 0 =
+              let none =
               h.line.none (dot q u x) (dot q v x) (dot_code q f u x) (dot_code q f v x) ne in
-              let at : get_or (map both rows) i 0 ≡ both x = get_or-map both rows i [] 0 low in
-              let there : i < length (map both rows) = subst (λ (n : ℕ). i < n) (sym (length-map rows both)) low in
+              let at = get_or-map both rows i [] 0 low in
+              let there : i < length (map both rows) = rw (length-map rows both) low in
               let some = counted_once (λ z. eqb z (both x)) (map both rows) i 0 there (eq-eqb _ _ at) in
-              absurd (omega (arith, told.each (both x) (omega (arith, dot_code q f u x, dot_code q f v x)), some, none))
+              absurd (omega (arith, told.each (both x) (omega (arith, dot_code q f u x, dot_code q f v x))))
         ]
 
     -- aliased, by the counts
@@ -145,37 +146,35 @@ module _ (q : ℕ) (f : IsField q) where
           λ e.
               let found =
               some_item test (λ c. (0 < c) × (c < q)) (range_with_len 1 (q - 1))
-              (range_codes 1 (q - 1) (omega arith) (omega (arith, f.more_than_one))) e in
-              let c : ℕ = found.0 in
+              (range_codes 1 (q - 1) (omega arith) (omega arith)) e in
+              let c = found.0 in
               let con = (constant_decides q f (off c) rows).0 found.2 in
               let value : (x : List ℕ) (i : ℕ) → i < length rows → get_or rows i x ≡ x → dot q (off c) x ≡ con.0 =
-              λ x i low is. subst (λ (z : List ℕ). dot q (off c) z ≡ con.0) is
-              (All-get_or (λ x. dot q (off c) x ≡ con.0) rows i x low con.1) in
+              λ x i low is. rw is at (All-get_or (λ x. dot q (off c) x ≡ con.0) rows i x low con.1) in
               record {
                 factor = c;
                 constant = con.0;
                 nonzero = found.1.0;
                 code = found.1.1;
-                value = subst (λ (k : ℕ). k < q) (All-get_or (λ x. dot q (off c) x ≡ con.0) rows 0 [] some con.1)
-                    (dot_code q f (off c) (get_or rows 0 []));
+                value = rw (All-get_or (λ x. dot q (off c) x ≡ con.0) rows 0 [] some con.1) at (dot_code q f (off c)
+                    (get_or rows 0 []));
                 line = record {
                   none = λ a b ha hb ne.
                       pair_is a b ha hb
                       ∙ counted_never (λ x. eqb (dot q u x) a && eqb (dot q v x) b) rows
                       (λ i d low. false_from_ne_true _ (λ t.
-                      let x : List ℕ = get_or rows i d in
+                      let x = get_or rows i d in
                       let parts = and_parts (eqb (dot q u x) a) (eqb (dot q v x) b) t in
                       let is = All-get_or (λ x. dot q (off c) x ≡ con.0) rows i d low con.1 in
                       let off_is =
                       back (dot q u x) (mul q c (dot q v x)) con.0 (dot_code q f u x) (f.mul_code c (dot q v x))
                       (sym (dot-minus u v c x) ∙ is) in
-                      ne (sym (eqb-true _ _ parts.0) ∙ off_is ∙ ap (λ (b : ℕ). add q con.0 (mul q c b))
-                      (eqb-true _ _ parts.1))));
+                      ne (cc (eqb-true _ _ parts.0, eqb-true _ _ parts.1))));
                 };
               },
           λ h.
               list_any_at test (range_with_len 1 (q - 1)) (h.factor - 1) 0
-              (omega (arith, length-range_with_len 1 (q - 1), h.nonzero, h.code))
+              (omega (arith, length-range_with_len 1 (q - 1)))
               (subst (λ (c : ℕ). test c ≡ true)
               (sym (get_or-range_with_len 1 (q - 1) (h.factor - 1) 0 (omega (arith, h.nonzero, h.code)) ∙ omega
               (arith, h.nonzero)))

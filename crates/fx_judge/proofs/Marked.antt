@@ -1,7 +1,7 @@
 -- Each plan has directions after all of its factors, so that it is regular exactly where the codes at its basic factors
 -- come equally often.
-use Rattle.std.proofs.Common.{ℕ, zero, suc, ◌≡◌, ◌<◌, ◌≤◌, ◌^◌, ◌↔◌, Bool, true, false, ◌&&◌, eqb, List, [], ◌∷◌}
-use Rattle.std.proofs.Common.{length, get_or, refl, sym, subst, ◌∙◌, ap, arith, inl, inr, replicate}
+use Rattle.std.proofs.Common.{ℕ, zero, suc, ◌≡◌, ◌<◌, ◌≤◌, ◌^◌, ◌↔◌, Bool, true, false, eqb, List, [], ◌∷◌}
+use Rattle.std.proofs.Common.{length, get_or, refl, arith, inl, inr, replicate}
 use Rattle.std.specs.List.{All, list_all}
 use Rattle.std.proofs.lemmas.Bool.{cases_Bool, both_ways, eq-eqb}
 use Rattle.std.proofs.lemmas.List.Elements.{All-from_get_or}
@@ -23,8 +23,8 @@ some_fails : {X : Type 0} (p : X → Bool) (xs : List X) (d : X) → list_all p 
     → (k : ℕ) × (k < length xs) × (p (get_or xs k d) ≡ false)
 some_fails p [] d e = cc e
 some_fails p (x ∷ xs) d e = elim (cases_Bool (p x)) [
-  | inl t ↦ let rest = some_fails p xs d (sym (ap (λ (b : Bool). b && list_all p xs) t) ∙ e) in
-      (suc rest.0, omega (arith, rest.1), rest.2)
+  | inl t ↦ let rest = some_fails p xs d (cc) in
+      (suc rest.0, omega arith, rest.2)
   | inr n ↦ (0, omega arith, n)
 ]
 
@@ -32,13 +32,13 @@ module _ (q : ℕ) (f : IsField q) (s : ℕ) (D : List (List ℕ)) (hd : All (λ
     (z : IsMade q D (zeros s)) where
   renamed : (rows : List (List ℕ)) (b : List Bool) (n : ℕ) → IsStage q s D rows b n
       → IsStage q s D rows (basic_among q s D n) n
-  renamed rows b n h = subst (λ (b : List Bool). IsStage q s D rows b n) h.basics h
+  renamed rows b n h = rw h.basics at h
 
   pub stage_at : (n : ℕ) → n ≤ s → (rows : List (List ℕ)) × IsStage q s D rows (basic_among q s D n) n
   stage_at zero h = (replicate s (zeros s), starts q f s D z)
   stage_at (suc n) h =
       let before = stage_at n (omega arith) in
-      let rows : List (List ℕ) = before.0 in
+      let rows = before.0 in
       let low : n < s = omega arith in
       elim (cases_Bool (gives q D n (column n rows))) [
         | inl t ↦ (rows, renamed rows _ (suc n) (goes_on q f s D rows (basic_among q s D n) n hd before.1 low z t))
@@ -53,14 +53,14 @@ module _ (q : ℕ) (f : IsField q) (s : ℕ) (D : List (List ℕ)) (hd : All (λ
 pub plan_differences : (plan : PlanView) → IsPlan plan
     → All (λ d. IsVector plan.q (length plan.names) d) (row_differences plan.q plan.rows)
 plan_differences plan h =
-    let q : ℕ = plan.q in
-    let s : ℕ = length plan.names in
-    let D : List (List ℕ) = row_differences q plan.rows in
+    let q = plan.q in
+    let s = length plan.names in
+    let D = row_differences q plan.rows in
     let f = is_order-field q h.order in
-    let some : 0 < length plan.rows = omega (arith, h.some_rows) in
+    let some : 0 < length plan.rows = omega arith in
     All-from_get_or (λ d. IsVector q s d) D [] (λ k low.
     let there : k < length plan.rows = omega (arith, differences_len q f plan.rows) in
-    subst (λ (d : List ℕ). IsVector q s d) (sym (differences_at q f plan.rows k there))
+    rw (differences_at q f plan.rows k there)
     (plus-vector q s f (get_or plan.rows k []) (scale q (neg q 1) (get_or plan.rows 0 [])) (h.each k [] there)
     (scale-vector q s f (neg q 1) (get_or plan.rows 0 []) (h.each 0 [] some))))
 
@@ -69,15 +69,15 @@ pub regular_even : (plan : PlanView) → IsPlan plan
     ↔ AreEven plan.q (basic_among plan.q (length plan.names) (row_differences plan.q plan.rows) (length plan.names))
     (row_differences plan.q plan.rows)
 regular_even plan h =
-    let q : ℕ = plan.q in
-    let s : ℕ = length plan.names in
-    let D : List (List ℕ) = row_differences q plan.rows in
+    let q = plan.q in
+    let s = length plan.names in
+    let D = row_differences q plan.rows in
     let f = is_order-field q h.order in
-    let long : length D ≡ length plan.rows = differences_len q f plan.rows in
+    let long = differences_len q f plan.rows in
     let hd = plan_differences plan h in
     let z = plan_zeros plan h D refl in
     let last = stage_at q f s D hd z s (omega arith) in
-    let full : 0 < length D = omega (arith, long, h.some_rows) in (
+    let full : 0 < length D = omega arith in (
       even_if_regular q f s D last.0 (basic_among q s D s) hd last.1 z full,
       regular_if_even q f s D last.0 (basic_among q s D s) hd last.1 z full,
     )
@@ -89,14 +89,14 @@ pub even_fits : (plan : PlanView) → IsPlan plan
     → plan.q ^ rank (basic_among plan.q (length plan.names) (row_differences plan.q plan.rows) (length plan.names))
     ≤ length (row_differences plan.q plan.rows)
 even_fits plan h even =
-    let q : ℕ = plan.q in
-    let s : ℕ = length plan.names in
-    let D : List (List ℕ) = row_differences q plan.rows in
+    let q = plan.q in
+    let s = length plan.names in
+    let D = row_differences q plan.rows in
     let f = is_order-field q h.order in
     let hd = plan_differences plan h in
     let z = plan_zeros plan h D refl in
     let last = stage_at q f s D hd z s (omega arith) in
-    let full : 0 < length D = omega (arith, differences_len q f plan.rows, h.some_rows) in
+    let full : 0 < length D = omega (arith, differences_len q f plan.rows) in
     combinations_fit q f s D last.0 (basic_among q s D s) hd last.1 z full even
 
 -- there is a mark for each factor
@@ -104,8 +104,8 @@ pub marks_long : (plan : PlanView) → IsPlan plan
     → length (basic_among plan.q (length plan.names) (row_differences plan.q plan.rows) (length plan.names))
     ≡ length plan.names
 marks_long plan h =
-    let q : ℕ = plan.q in
-    let s : ℕ = length plan.names in
-    let D : List (List ℕ) = row_differences q plan.rows in
+    let q = plan.q in
+    let s = length plan.names in
+    let D = row_differences q plan.rows in
     (stage_at q (is_order-field q h.order) s D (plan_differences plan h) (plan_zeros plan h D refl) s
     (omega arith)).1.marks

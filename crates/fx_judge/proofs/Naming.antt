@@ -1,17 +1,12 @@
 -- Names that are fit, one after another.
 use Rattle.std.proofs.Common.{ℕ, ◌≡◌, ◌<◌, ◌+◌, Bool, true, false, not, cond, ◌&&◌, List, [], ◌∷◌, length, drop, get_or}
-use Rattle.std.proofs.Common.{refl, sym, ◌∙◌, ap, arith}
+use Rattle.std.proofs.Common.{refl, ◌∙◌, arith}
 use Rattle.std.specs.Prelude.{codes}
 use Rattle.std.specs.List.{list_all, list_any}
 use Rattle.std.specs.Str.{str_eq_ignore_ascii_case}
 use Rattle.std.proofs.lemmas.List.{at_drop_more}
 use Rattle.fx_judge.specs.Reading.{are_distinct, are_fit, is_name, unread_columns}
-
-regrouped : (a b c d : Bool) → ((a && b) && (c && d)) ≡ ((a && c) && (b && d))
-regrouped true b true d = refl
-regrouped true true false d = refl
-regrouped true false false d = refl
-regrouped false b c d = refl
+use Rattle.fx_vectors.proofs.Differences.{regroup}
 
 -- the test of one name
 abbrev pub fits : List ℕ → List (List ℕ) → Bool
@@ -22,7 +17,7 @@ pub fit_step : (names : List (List ℕ)) (i : ℕ) → i < length names
     → are_fit (drop i names) ≡ (fits (get_or names i []) (drop (i + 1) names) && are_fit (drop (i + 1) names))
 fit_step names i h =
     at_drop_more are_fit names i [] h
-    ∙ regrouped (is_name (get_or names i [])) (list_all is_name (drop (i + 1) names))
+    ∙ regroup (is_name (get_or names i [])) (list_all is_name (drop (i + 1) names))
     (not (list_any (str_eq_ignore_ascii_case (get_or names i [])) (drop (i + 1) names)))
     (are_distinct (drop (i + 1) names))
 
@@ -31,13 +26,13 @@ pub fit_on : (names : List (List ℕ)) (i : ℕ) (b : Bool) → i < length names
     → b ≡ fits (get_or names i []) (drop (i + 1) names) → b ≡ true
     → are_fit (drop i names) ≡ are_fit names → are_fit (drop (i + 1) names) ≡ are_fit names
 fit_on names i b h is e so =
-    ap (λ (t : Bool). t && are_fit (drop (i + 1) names)) (sym e ∙ is) ∙ sym (fit_step names i h) ∙ so
+    cc (fit_step names i h)
 
 pub fit_off : (names : List (List ℕ)) (i : ℕ) (b : Bool) → i < length names
     → b ≡ fits (get_or names i []) (drop (i + 1) names) → b ≡ false
     → are_fit (drop i names) ≡ are_fit names → false ≡ are_fit names
 fit_off names i b h is e so =
-    ap (λ (t : Bool). t && are_fit (drop (i + 1) names)) (sym e ∙ is) ∙ sym (fit_step names i h) ∙ so
+    cc (fit_step names i h)
 
 -- the columns that are left unread
 pub none_unread : (fields : List (List ℕ)) → length fields ≡ 0 → 0 ≡ unread_columns fields
@@ -48,4 +43,4 @@ pub first_unread : (fields : List (List ℕ)) (x : List ℕ) (b : Bool) → 0 < 
     → b ≡ str_eq_ignore_ascii_case x (codes "BLOCK") → cond b 1 0 ≡ unread_columns fields
 first_unread [] x b h e is = absurd (omega arith)
 first_unread (y ∷ fields) x b h e is =
-    ap (λ (t : Bool). cond t 1 0) (is ∙ ap (λ (z : List ℕ). str_eq_ignore_ascii_case z (codes "BLOCK")) e)
+    cc

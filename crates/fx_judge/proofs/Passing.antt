@@ -18,15 +18,13 @@ use Rattle.fx_judge.proofs.Stepping.{turned, zeros_made}
 pub plan_zeros : (plan : PlanView) → IsPlan plan → (D : List (List ℕ)) → D ≡ row_differences plan.q plan.rows
     → IsMade plan.q D (zeros (length plan.names))
 plan_zeros plan h D is =
-    let some : 0 < length plan.rows = omega (arith, h.some_rows) in
-    subst (λ (D : List (List ℕ)). IsMade plan.q D (zeros (length plan.names))) (sym is)
-    (zeros_made plan.q (is_order-field plan.q h.order) (length plan.names) plan.rows some (h.each 0 [] some))
+    let some : 0 < length plan.rows = omega arith in
+    rw is (zeros_made plan.q (is_order-field plan.q h.order) (length plan.names) plan.rows some (h.each 0 [] some))
 
 as_vector : (q k s : ℕ) (u v : List ℕ) → k ≡ q → u ≡ v → IsVector q s v → IsVector k (length u) u
 as_vector q k s u v ek eu h = record {
   len = refl;
-  codes = subst (λ (k : ℕ). AllByRecursion (λ c. c < k) u) (sym ek)
-      (subst (λ (u : List ℕ). AllByRecursion (λ c. c < q) u) (sym eu) h.codes);
+  codes = rw ek (subst (λ (u : List ℕ). AllByRecursion (λ c. c < q) u) (sym eu) h.codes);
 }
 
 module _ (q : ℕ) (f : IsField q) (s : ℕ) (D rows : List (List ℕ)) (i : ℕ) (hd : All (λ d. IsVector q s d) D)
@@ -37,7 +35,7 @@ module _ (q : ℕ) (f : IsField q) (s : ℕ) (D rows : List (List ℕ)) (i : ℕ
 
   pub column_long : (u : List ℕ) → u ≡ column i rows → length u ≡ s
   column_long u eu =
-      ap (λ (l : List ℕ). length l) eu ∙ (column_vector q f s D rows (basic_among q s D i) i hd stage i low).len
+      cc ((column_vector q f s D rows (basic_among q s D i) i hd stage i low).len)
 
   module _ (F : ℕ) (u : List ℕ) (eF : F ≡ q) (eu : u ≡ column i rows) where
     given : gives F D i u ≡ true → gives q D i (column i rows) ≡ true
@@ -46,8 +44,7 @@ module _ (q : ℕ) (f : IsField q) (s : ℕ) (D rows : List (List ℕ)) (i : ℕ
     pub on_none : (next : List (List ℕ)) → gives F D i u ≡ true → next ≡ rows
         → IsStage q s D next (basic_among q s D (i + 1)) (i + 1)
     on_none next e is =
-        subst (λ (r : List (List ℕ)). IsStage q s D r (basic_among q s D (i + 1)) (i + 1)) (sym is)
-        (turned q s D rows _ i (goes_on q f s D rows (basic_among q s D i) i hd stage low z (given e)))
+        rw is (turned q s D rows _ i (goes_on q f s D rows (basic_among q s D i) i hd stage low z (given e)))
 
     pub none_found : gives F D i u ≡ true → combination_for q s D (basic_among q s D i) i ≡ Some (column i rows)
     none_found e = found q f s D rows (basic_among q s D i) i hd stage low (given e)
@@ -63,7 +60,7 @@ module _ (q : ℕ) (f : IsField q) (s : ℕ) (D rows : List (List ℕ)) (i : ℕ
 
       module _ (G : ℕ) (d : List ℕ) (eG : G ≡ q) (ed : d ≡ get_or D k []) where
         pub d_long : length d ≡ s
-        d_long = ap (λ (l : List ℕ). length l) ed ∙ (All-get_or (λ d. IsVector q s d) D k [] ex.there hd).len
+        d_long = cc ((All-get_or (λ d. IsVector q s d) D k [] ex.there hd).len)
 
         off_is : off_of G (length d) rows d ≡ off_of q s rows (get_or D k [])
         off_is =
@@ -73,7 +70,7 @@ module _ (q : ℕ) (f : IsField q) (s : ℕ) (D rows : List (List ℕ)) (i : ℕ
         off_positive =
             let no = off_here q f s D rows (basic_among q s D i) i hd stage low z k ex.there apart in
             let not_zero : (get_or (off_of G (length d) rows d) i 0 ≡ 0 → ⊥) =
-            λ e. no (sym (ap (λ (v : List ℕ). get_or v i 0) off_is) ∙ e) in
+            λ e. no (cc off_is) in
             omega arith
 
         module _ (e : List ℕ) (ee : e ≡ new_direction G (length d) (off_of G (length d) rows d) i) where
@@ -89,16 +86,14 @@ module _ (q : ℕ) (f : IsField q) (s : ℕ) (D rows : List (List ℕ)) (i : ℕ
           direction_fits H eH = as_vector q H s e _ eH direction_is e_vector
 
           pub direction_long : length e ≡ s
-          direction_long = ap (λ (l : List ℕ). length l) direction_is ∙ e_vector.len
+          direction_long = cc (direction_is, e_vector.len)
 
           pub rows_fit : (H : ℕ) → H ≡ q → All (λ r. IsVector H (length e) r) rows
           rows_fit H eH = All-weaker (λ r. IsVector q s r) (λ r. IsVector H (length e) r)
-              (λ r h. subst (λ (n : ℕ). IsVector H n r) (sym direction_long)
-              (subst (λ (k : ℕ). IsVector k s r) (sym eH) h)) rows stage.vectors
+              (λ r h. rw direction_long (subst (λ (k : ℕ). IsVector k s r) (sym eH) h)) rows stage.vectors
 
           pub on_some : (H : ℕ) (next : List (List ℕ)) → H ≡ q → next ≡ grown H rows e i
               → IsStage q s D next (basic_among q s D (i + 1)) (i + 1)
           on_some H next eH is =
-              subst (λ (r : List (List ℕ)). IsStage q s D r (basic_among q s D (i + 1)) (i + 1))
-              (sym (is ∙ ap₂ (λ (H : ℕ) (e : List ℕ). grown H rows e i) eH direction_is))
+              rw (is ∙ ap₂ (λ (H : ℕ) (e : List ℕ). grown H rows e i) eH direction_is)
               (turned q s D _ _ i (grows q f s D rows (basic_among q s D i) i hd stage low z k ex.there apart))

@@ -1,6 +1,6 @@
 -- Where each number below n is the key of some item, there are at least n items.
-use Rattle.std.proofs.Common.{ℕ, zero, suc, ◌≡◌, ◌<◌, ◌≤◌, ◌+◌, Bool, cond, eqb, List, [], ◌∷◌, length, sym, subst, ◌∙◌}
-use Rattle.std.proofs.Common.{ap, ap₂, arith}
+use Rattle.std.proofs.Common.{ℕ, zero, suc, ◌≡◌, ◌<◌, ◌≤◌, ◌+◌, cond, eqb, List, [], ◌∷◌, length, sym, ◌∙◌}
+use Rattle.std.proofs.Common.{ap₂, arith}
 use Rattle.std.specs.Prelude.{count_by}
 use Rattle.std.specs.List.{All, range_with_len, sum_by}
 use Rattle.std.proofs.lemmas.Bool.{eq-eqb, eqb-true}
@@ -11,8 +11,7 @@ use Rattle.fx_laws.proofs.Tests.{bool_same}
 
 turned : (a z : ℕ) → ◌≡◌ {A = ℕ} (cond (eqb a z) 1 0) (cond (eqb z a) 1 0)
 turned a z =
-    ap (λ (b : Bool). cond b 1 0)
-    (bool_same (eqb a z) (eqb z a) (λ e. eq-eqb z a (sym (eqb-true a z e))) (λ e. eq-eqb a z (sym (eqb-true z a e))))
+    cc (bool_same (eqb a z) (eqb z a) (λ e. eq-eqb z a (sym (eqb-true a z e))) (λ e. eq-eqb a z (sym (eqb-true z a e))))
 
 module _ {X : Type 0} (key : X → ℕ) (n : ℕ) where
   abbrev counted : List X → ℕ → ℕ
@@ -37,10 +36,9 @@ low_sum g zero a h = omega arith
 low_sum g (suc n) a h =
     let rest = low_sum g n (a + 1) (λ z low high. h z (omega arith) (omega arith)) in
     let here = h a (omega arith) (omega arith) in
-    omega (arith, sum_by-cons g a (range_with_len (a + 1) n), rest, here)
+    omega (arith, sum_by-cons g a (range_with_len (a + 1) n))
 
 pub enough : {X : Type 0} (key : X → ℕ) (n : ℕ) (xs : List X) → All (λ x. key x < n) xs
     → ((z : ℕ) → z < n → 1 ≤ count_by (λ x. eqb (key x) z) xs) → n ≤ length xs
 enough key n xs low each =
-    subst (λ (m : ℕ). n ≤ m) (total key n xs low)
-    (low_sum (λ z. count_by (λ x. eqb (key x) z) xs) n 0 (λ z a b. each z (omega arith)))
+    rw (total key n xs low) at (low_sum (λ z. count_by (λ x. eqb (key x) z) xs) n 0 (λ z a b. each z (omega arith)))

@@ -18,14 +18,14 @@ last_read : (t : Bool) (fields : List (List ℕ)) (p : Read) → cond t (Some (f
     → (p.1 ≡ st.StartRecord) × (p.2 ≡ [])
 last_read true fields p e =
     let d : ◌≡◌ {A = Read} (fields, st.StartRecord, []) p = cc in
-    (ap (λ (r : Read). r.1) (sym d), ap (λ (r : Read). r.2) (sym d))
+    (cc, cc)
 last_read false fields p e = cc e
 
 one_less : (t : Bool) (fields : List (List ℕ)) (s : State) (rest : List ℕ) (p : Read) (o : Option Read)
     → (o ≡ Some p → Shorter (length rest) p) → cond t (Some (fields, s, rest)) o ≡ Some p → Shorter (length rest + 1) p
 one_less true fields s rest p o more e =
     let d : ◌≡◌ {A = Read} (fields, s, rest) p = cc in
-    let same : length rest ≡ length p.2 = ap (λ (r : Read). length r.2) d in
+    let same : length rest ≡ length p.2 = cc in
     inl (omega arith)
 one_less false fields s rest p o more e = elim (more e) [ inl h ↦ inl (omega arith) | inr h ↦ inr h ]
 
@@ -35,8 +35,7 @@ unfolding next_record
 shorter cfg s fields field [] p e = inr (last_read (ends_at_end s) (fields ++ (field ∷ [])) p e)
 shorter cfg s fields field (c ∷ rest) p e =
     let one : length rest + 1 ≡ suc (length rest) = omega arith in
-    subst (λ (n : ℕ). Shorter n p) one
-    (one_less (is_end (step cfg s c).1) (fields_after (step cfg s c).1 fields field) (step cfg s c).0 rest p
+    rw one at (one_less (is_end (step cfg s c).1) (fields_after (step cfg s c).1 fields field) (step cfg s c).0 rest p
     (next_record cfg (step cfg s c).0 (fields_after (step cfg s c).1 fields field)
     (field_after (step cfg s c).1 c field) rest)
     (shorter cfg (step cfg s c).0 (fields_after (step cfg s c).1 fields field) (field_after (step cfg s c).1 c field)
@@ -62,8 +61,7 @@ few cfg s xs (r ∷ rows) s2 ys h =
       | inl l ↦ let more = few cfg h.0.1 h.0.2 rows s2 ys h.3 in omega arith
       | inr z ↦
           let rest : Reached cfg st.StartRecord [] rows s2 ys =
-          subst (λ (a : State). Reached cfg a [] rows s2 ys) z.0
-          (subst (λ (b : List ℕ). Reached cfg h.0.1 b rows s2 ys) z.1 h.3) in
+          rw z.0 at (subst (λ (b : List ℕ). Reached cfg h.0.1 b rows s2 ys) z.1 h.3) in
           let none = no_more cfg rows s2 ys rest in omega arith
     ]
 
@@ -76,9 +74,7 @@ joined cfg s xs [] s2 ys k h =
     h.1
 joined cfg s xs (r ∷ rows) s2 ys k h =
     let one : suc (length rows) + k ≡ suc (length rows + k) = omega arith in
-    ap (λ (n : ℕ). records_from cfg n s xs) one
-    ∙ ap (records_next (records_from cfg (length rows + k))) h.1
-    ∙ ap₂ (λ (a : List (List ℕ)) (b : List (List (List ℕ))). a ∷ b) (sym h.2) (joined cfg h.0.1 h.0.2 rows s2 ys k h.3)
+    cc (h.1, h.2, joined cfg h.0.1 h.0.2 rows s2 ys k h.3)
 
 ended : (cfg : Config) (s : State) (ys : List ℕ) (k : ℕ) → next_record cfg s [] [] ys ≡ None
     → records_from cfg k s ys ≡ []
@@ -93,8 +89,7 @@ all_records : (cfg : Config) (xs : List ℕ) (rows : List (List (List ℕ))) (s2
 all_records cfg xs rows s2 ys h =
     let room = few cfg st.StartRecord xs rows s2 ys h in
     let split : length xs + 1 ≡ length rows + (length xs + 1 - length rows) = omega arith in
-    ap (λ (n : ℕ). records_from cfg n st.StartRecord xs) split ∙ joined cfg st.StartRecord xs rows s2 ys
-    (length xs + 1 - length rows) h
+    cc (joined cfg st.StartRecord xs rows s2 ys (length xs + 1 - length rows) h)
 
 -- where none is left
 pub whole_text : (text : List ℕ) (rows : List (List (List ℕ))) (s2 : State) (ys : List ℕ) (n : ℕ)
@@ -103,10 +98,12 @@ pub whole_text : (text : List ℕ) (rows : List (List (List ℕ))) (s2 : State) 
 unfolding csv_records
 whole_text text rows s2 ys n h none few =
     let all : records default_config (strip_bom text) ≡ rows =
-    all_records default_config (strip_bom text) rows s2 ys h
-    ∙ ap (λ (l : List (List (List ℕ))). rows ++ l)
-    (ended default_config s2 ys (length (strip_bom text) + 1 - length rows) none) ∙ append-nil rows in
-    sym (ap (λ (l : List (List (List ℕ))). take n l) all ∙ take_all n rows (omega arith))
+    cc (
+      all_records default_config (strip_bom text) rows s2 ys h,
+      ended default_config s2 ys (length (strip_bom text) + 1 - length rows) none,
+      append-nil rows,
+    ) in
+    sym (cc (take_all n rows (omega arith)))
 
 -- where enough were reached
 pub front_of_text : (text : List ℕ) (rows : List (List (List ℕ))) (s2 : State) (ys : List ℕ) (n : ℕ)
@@ -114,5 +111,7 @@ pub front_of_text : (text : List ℕ) (rows : List (List (List ℕ))) (s2 : Stat
     → length rows ≡ n → rows ≡ take n (csv_records text)
 unfolding csv_records
 front_of_text text rows s2 ys n h len =
-    sym (ap (λ (l : List (List (List ℕ))). take n l) (all_records default_config (strip_bom text) rows s2 ys h)
-    ∙ take_at rows (records_from default_config (length (strip_bom text) + 1 - length rows) s2 ys) n len)
+    sym (cc (
+      all_records default_config (strip_bom text) rows s2 ys h,
+      take_at rows (records_from default_config (length (strip_bom text) + 1 - length rows) s2 ys) n len,
+    ))

@@ -1,6 +1,6 @@
 -- What elimination shows of a plan: whether it is regular, and that its rules are over its factors.
 use Rattle.std.proofs.Common.{ℕ, ◌≡◌, ◌<◌, ◌≤◌, ◌^◌, Bool, ◌&&◌, List, [], ◌∷◌}
-use Rattle.std.proofs.Common.{length, Option, Some, None, refl, sym, subst, ◌∙◌, ap, arith, inl, inr}
+use Rattle.std.proofs.Common.{length, Option, Some, None, refl, sym, subst, ◌∙◌, arith, inl, inr}
 use Rattle.std.specs.Prelude.{find, option_map, option_to_list}
 use Rattle.std.specs.List.{All, AllByRecursion, range_with_len}
 use Rattle.std.proofs.lemmas.Bool.{cases_Bool, cond-true, cond-false, false_from_ne_true}
@@ -33,7 +33,7 @@ combination_long : (q s : ℕ) (differences : List (List ℕ)) (basic : List Boo
 unfolding combination_for
 combination_long q s differences basic i u some e =
     find_holds (λ u. s ≤ length u) (λ u. is_over basic u && gives q differences i u) (points q s) u
-    (all-points q s some (λ u. s ≤ length u) (λ u h. omega (arith, h.len))) e
+    (all-points q s some (λ u. s ≤ length u) (λ u h. omega arith)) e
 
 rule_over : (q s : ℕ) (rows : List (List ℕ)) (i : ℕ) (o : Option (List ℕ)) → 0 < q → i < s
     → combination_for q s (row_differences q rows) (basic_among q s (row_differences q rows) i) i ≡ o
@@ -68,34 +68,29 @@ module _ (plan : PlanView) (h : IsPlan plan) (q : ℕ) (basic : List Bool) (diff
 
   pub each_fits : All (λ d. IsVector q (length basic) d) differences
   each_fits =
-      subst (λ (q : ℕ). All (λ d. IsVector q (length basic) d) differences) (sym eq)
-      (subst (λ (b : List Bool). All (λ d. IsVector plan.q (length b) d) differences) (sym eb)
+      rw eq (subst (λ (b : List Bool). All (λ d. IsVector plan.q (length b) d) differences) (sym eb)
       (subst (λ (l : List (List ℕ)). All (λ d. IsVector plan.q (length marks) d) l) (sym ed)
       (subst (λ (n : ℕ). All (λ d. IsVector plan.q n d) all) (sym (marks_long plan h)) (plan_differences plan h))))
 
   to_plan : AreEven q basic differences → AreEven plan.q marks all
   to_plan e =
-      subst (λ (l : List (List ℕ)). AreEven plan.q marks l) ed
-      (subst (λ (b : List Bool). AreEven plan.q b differences) eb
+      rw ed at (subst (λ (b : List Bool). AreEven plan.q b differences) eb
       (subst (λ (q : ℕ). AreEven q basic differences) eq e))
 
   from_plan : AreEven plan.q marks all → AreEven q basic differences
   from_plan e =
-      subst (λ (q : ℕ). AreEven q basic differences) (sym eq)
-      (subst (λ (b : List Bool). AreEven plan.q b differences) (sym eb)
+      rw eq (subst (λ (b : List Bool). AreEven plan.q b differences) (sym eb)
       (subst (λ (l : List (List ℕ)). AreEven plan.q marks l) (sym ed) e))
 
   pub even_within : AreEven q basic differences → q ^ rank basic ≤ length differences
   even_within e =
-      subst (λ (q : ℕ). q ^ rank basic ≤ length differences) (sym eq)
-      (subst (λ (b : List Bool). plan.q ^ rank b ≤ length differences) (sym eb)
+      rw eq (subst (λ (b : List Bool). plan.q ^ rank b ≤ length differences) (sym eb)
       (subst (λ (l : List (List ℕ)). plan.q ^ rank marks ≤ length l) (sym ed) (even_fits plan h (to_plan e))))
 
   pub rules_if_even : (rules : List Rule) → rules ≡ plan_rules plan.q (length plan.names) plan.rows
       → AreEven q basic differences → Some rules ≡ regular_rules plan
   rules_if_even rules is e =
-      ap (λ (l : List Rule). Some l) is
-      ∙ sym (cond-true (is_regular_plan plan.q plan.rows) (Some (plan_rules plan.q (length plan.names) plan.rows)) None
+      cc (cond-true (is_regular_plan plan.q plan.rows) (Some (plan_rules plan.q (length plan.names) plan.rows)) None
       ((regular_even plan h).1 (to_plan e)))
 
   pub none_if_uneven : (AreEven q basic differences → ⊥) → None ≡ regular_rules plan

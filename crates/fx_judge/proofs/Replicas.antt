@@ -1,6 +1,6 @@
 -- The differences of a regular plan are the runs of a rule matrix, each equally often; so each vector is constant or
 -- balanced over them.
-use Rattle.std.proofs.Common.{ℕ, ◌≡◌, ◌<◌, ◌≤◌, ◌*◌, ◌⊎◌, Bool, true, false, cond, eqb, List, []}
+use Rattle.std.proofs.Common.{ℕ, ◌≡◌, ◌<◌, ◌*◌, ◌⊎◌, Bool, true, false, cond, eqb, List, []}
 use Rattle.std.proofs.Common.{◌∷◌, length, map, get_or, refl, sym, subst, ◌∙◌, ap, ap₂, arith, inl, inr, mul_comm}
 use Rattle.std.proofs.Common.{zero-add}
 use Rattle.std.specs.Prelude.{count_by}
@@ -11,7 +11,7 @@ use Rattle.std.proofs.lemmas.List.FromFn.{get_or-range_with_len, length-range_wi
 use Rattle.std.proofs.lemmas.List.Elements.{All-from_get_or, recursion_from_All}
 use Rattle.fx_base.proofs.Ranges.{each-range}
 use Rattle.fx_components.proofs.Enumerating.{mapped}
-use Rattle.fx_designs.specs.Galois.{IsField, add, digits, mul, number}
+use Rattle.fx_designs.specs.Galois.{IsField, add, mul, number}
 use Rattle.fx_designs.specs.Vectors.{IsVector, combination, dot, same, zeros}
 use Rattle.fx_designs.specs.Runs.{levels_at, points, runs_of}
 use Rattle.fx_laws.specs.Changes.{unit}
@@ -27,11 +27,12 @@ use Rattle.fx_laws.proofs.Tests.{bool_same}
 use Rattle.fx_judge.specs.Bases.{AreEven, at, basic_key, column, rank}
 use Rattle.fx_judge.proofs.Bases.{IsMade, IsStage, column_len, column_vector, dot_unit}
 use Rattle.fx_judge.proofs.Even.{at_vector, count_agree, determined, item_vector, key_low, made_key, made_made, made_of}
-use Rattle.fx_judge.proofs.Even.{made_vector, same_is, same_self, spread, wide}
+use Rattle.fx_judge.proofs.Even.{made_vector, spread, wide}
 use Rattle.fx_judge.proofs.Gathered.{gathered, sum_agree, sum_times}
 use Rattle.fx_judge.proofs.Growing.{levels_unit, made_item}
 use Rattle.fx_judge.proofs.Kinships.{counted_once}
 use Rattle.fx_judge.proofs.Replicated.{constant_told}
+use Rattle.fx_laws.proofs.Weights.{same-true, same-self}
 
 -- a product with codes at marked places, and zeros between
 dot_spread : (q : ℕ) → IsField q → (marks : List Bool) (v x : List ℕ) → length v ≡ length marks → length x ≡ rank marks
@@ -43,9 +44,11 @@ dot_spread q f (true ∷ marks) (c ∷ v) [] hv hx = absurd (omega arith)
 dot_spread q f (true ∷ marks) (c ∷ v) (b ∷ x) hv hx =
     ap (add q (mul q c b)) (dot_spread q f marks v x (omega arith) (omega arith))
 dot_spread q f (false ∷ marks) (c ∷ v) x hv hx =
-    ap (λ (z : ℕ). add q z (dot q v (spread marks x))) (f.mul_zero c)
-    ∙ zero-add-code q f (dot q v (spread marks x)) (dot_code q f v (spread marks x))
-    ∙ dot_spread q f marks v x (omega arith) hx
+    cc (
+      f.mul_zero c,
+      zero-add-code q f (dot q v (spread marks x)) (dot_code q f v (spread marks x)),
+      dot_spread q f marks v x (omega arith) hx,
+    )
 
 module _ (q : ℕ) (f : IsField q) (s : ℕ) (D rows : List (List ℕ)) (basic : List Bool) (hd : All (λ d. IsVector q s d) D)
     (stage : IsStage q s D rows basic s) (made_zeros : IsMade q D (zeros s)) (some : 0 < length D)
@@ -63,16 +66,16 @@ module _ (q : ℕ) (f : IsField q) (s : ℕ) (D rows : List (List ℕ)) (basic :
 
   at_item : (k : ℕ) → k < length D → IsVector q (rank basic) (at basic (get_or D k []))
   at_item k low =
-      let d : List ℕ = get_or D k [] in
+      let d = get_or D k [] in
       at_vector q basic d
       (wide q f s D rows basic hd stage made_zeros some d
       (item_vector q f s D rows basic hd stage made_zeros some k low))
 
   item_made : (k : ℕ) → k < length D → get_or D k [] ≡ made (at basic (get_or D k []))
   item_made k low =
-      let d : List ℕ = get_or D k [] in
+      let d = get_or D k [] in
       let vector = item_vector q f s D rows basic hd stage made_zeros some k low in
-      let z : ℕ = basic_key q basic d in
+      let z = basic_key q basic d in
       determined q f s D rows basic hd stage made_zeros some d (made_of q f s D rows basic hd stage made_zeros some z)
       vector (made_vector q f s D rows basic hd stage made_zeros some z) (made_item q f D k low)
       (made_made q f s D rows basic hd stage made_zeros some z)
@@ -86,16 +89,15 @@ module _ (q : ℕ) (f : IsField q) (s : ℕ) (D rows : List (List ℕ)) (basic :
       (All-from_get_or (λ d. same (at basic d) x ≡ eqb (basic_key q basic d) (number q x)) D [] (λ k low.
       let v : List ℕ = at basic (get_or D k []) in
       bool_same (same v x) (eqb (number q v) (number q x))
-      (λ t. eq-eqb (number q v) (number q x) (ap (number q) (same_is v x t)))
+      (λ t. eq-eqb (number q v) (number q x) (ap (number q) (same-true v x t)))
       (λ t. subst (λ (y : List ℕ). same v y ≡ true)
-      (sym (digits-number q (rank basic) v (at_item k low)) ∙ ap (digits q (rank basic)) (eqb-true _ _ t)
-      ∙ digits-number q (rank basic) x h) (same_self v))))
+      (cc (digits-number q (rank basic) v (at_item k low), eqb-true _ _ t, digits-number q (rank basic) x h))
+      (same-self v))))
       ∙ even.each (number q x) (number-below q (rank basic) x h)
 
   column_fits : (i : ℕ) → i < s → IsVector q (length basic) (column i rows)
   column_fits i low =
-      subst (λ (n : ℕ). IsVector q n (column i rows)) (sym stage.marks)
-      (column_vector q f s D rows basic s hd stage i low)
+      rw stage.marks (column_vector q f s D rows basic s hd stage i low)
 
   pub matrix_vectors : AreVectors q (rank basic) matrix
   matrix_vectors =
@@ -122,47 +124,49 @@ module _ (q : ℕ) (f : IsField q) (s : ℕ) (D rows : List (List ℕ)) (basic :
 
       entry : (i : ℕ) → i < s → get_or (levels_at q matrix x) i 0 ≡ get_or (made x) i 0
       entry i low =
-          get_or-map (λ r. dot q r x) matrix i [] 0 (omega (arith, many))
-          ∙ ap (λ (r : List ℕ). dot q r x)
-          (get_or-map (λ i. at basic (column i rows)) (range_with_len 0 s) i 0 []
-          (omega (arith, length-range_with_len 0 s))
-          ∙ ap (λ (i : ℕ). at basic (column i rows)) (get_or-range_with_len 0 s i 0 low ∙ zero-add i))
-          ∙ sym (dot_spread q f basic (column i rows) x (column_len q f s D rows basic s hd stage i ∙ sym stage.marks)
-          h.len)
-          ∙ dot_comm q f (column i rows) (spread basic x)
-          ∙ ap (dot q (spread basic x)) (sym (levels_unit q f s i rows stage.vectors low))
-          ∙ dot-levels q f s (spread basic x) rows (unit s i)
-          ∙ dot_unit q f s i (made x) vector low
+          cc (
+            get_or-map (λ r. dot q r x) matrix i [] 0 (omega (arith, many)),
+            get_or-map (λ i. at basic (column i rows)) (range_with_len 0 s) i 0 []
+                (omega (arith, length-range_with_len 0 s)),
+            get_or-range_with_len 0 s i 0 low,
+            zero-add i,
+            dot_spread q f basic (column i rows) x (column_len q f s D rows basic s hd stage i ∙ sym stage.marks) h.len,
+            dot_comm q f (column i rows) (spread basic x),
+            levels_unit q f s i rows stage.vectors low,
+            dot-levels q f s (spread basic x) rows (unit s i),
+            dot_unit q f s i (made x) vector low,
+          )
 
   -- each test is passed so many times as often as by the runs
   pub replicated : (p : List ℕ → Bool) → count_by p D ≡ often * count_by p (runs_of q (rank basic) matrix)
   unfolding runs_of
   replicated p =
       let g : List ℕ → ℕ = λ x. cond (p (made x)) 1 0 in
-      sum_agree (λ d. cond (p d) 1 0) (λ d. g (at basic d)) D
-      (All-from_get_or (λ d. cond (p d) 1 0 ≡ g (at basic d)) D []
-      (λ k low. ap (λ (d : List ℕ). cond (p d) 1 0) (item_made k low)))
-      ∙ gathered q (rank basic) (at basic) g D
-      (All-from_get_or (λ d. IsVector q (rank basic) (at basic d)) D [] at_item)
-      ∙ sum_agree (λ x. g x * count_by (λ d. same (at basic d) x) D) (λ x. often * cond (p (levels_at q matrix x)) 1 0)
-      (points q (rank basic))
-      (all-points q (rank basic) (omega (arith, f.more_than_one))
-      (λ x. g x * count_by (λ d. same (at basic d) x) D ≡ often * cond (p (levels_at q matrix x)) 1 0)
-      (λ x h.
-      ap₂ (λ (a b : ℕ). a * b) (ap (λ (v : List ℕ). cond (p v) 1 0) (sym (levels_made x h))) (as_often x h)
-      ∙ mul_comm (cond (p (levels_at q matrix x)) 1 0) often))
-      ∙ sum_times often (λ x. cond (p (levels_at q matrix x)) 1 0) (points q (rank basic))
-      ∙ ap (λ (n : ℕ). often * n)
-      (sym (sum_by_map (λ x. cond (p x) 1 0) (λ x. levels_at q matrix x) (points q (rank basic))))
+      cc (
+        sum_agree (λ d. cond (p d) 1 0) (λ d. g (at basic d)) D
+            (All-from_get_or (λ d. cond (p d) 1 0 ≡ g (at basic d)) D []
+            (λ k low. ap (λ (d : List ℕ). cond (p d) 1 0) (item_made k low))),
+        gathered q (rank basic) (at basic) g D
+            (All-from_get_or (λ d. IsVector q (rank basic) (at basic d)) D [] at_item),
+        sum_agree (λ x. g x * count_by (λ d. same (at basic d) x) D) (λ x. often * cond (p (levels_at q matrix x)) 1 0)
+            (points q (rank basic))
+            (all-points q (rank basic) (omega (arith, f.more_than_one))
+            (λ x. g x * count_by (λ d. same (at basic d) x) D ≡ often * cond (p (levels_at q matrix x)) 1 0)
+            (λ x h. ap₂ (λ (a b : ℕ). a * b) (ap (λ (v : List ℕ). cond (p v) 1 0) (sym (levels_made x h)))
+            (as_often x h)
+            ∙ mul_comm (cond (p (levels_at q matrix x)) 1 0) often)),
+        sum_times often (λ x. cond (p (levels_at q matrix x)) 1 0) (points q (rank basic)),
+        sum_by_map (λ x. cond (p x) 1 0) (λ x. levels_at q matrix x) (points q (rank basic)),
+      )
 
   pub often_some : 0 < often
   often_some =
-      let first : List ℕ = get_or D 0 [] in
-      let here : 1 ≤ count_by (λ d. eqb (basic_key q basic d) (basic_key q basic first)) D =
+      let first = get_or D 0 [] in
+      let here =
       counted_once (λ d. eqb (basic_key q basic d) (basic_key q basic first)) D 0 [] some (eq-eqb _ _ refl) in
       let level = even.each (basic_key q basic first) (key_low q f s D rows basic hd stage made_zeros some first
       (item_vector q f s D rows basic hd stage made_zeros some 0 some)) in
-      omega (arith, here, level)
+      omega arith
 
   -- over the differences each vector is constant or balanced
   pub constant_or_balanced : (w : List ℕ) → IsConstant q w D ⊎ IsBalanced q w D

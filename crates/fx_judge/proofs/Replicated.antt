@@ -1,6 +1,6 @@
 -- What is aliased over runs is aliased over rows that have each run equally often, and the other way round.
-use Rattle.std.proofs.Common.{ℕ, ◌≡◌, ◌<◌, ◌-◌, ◌*◌, Bool, true, false, not, cond, ◌&&◌, ◌||◌, eqb, List, [], ◌∷◌, refl}
-use Rattle.std.proofs.Common.{sym, ◌∙◌, ap, ap₂, arith, inl, inr, mul-pos}
+use Rattle.std.proofs.Common.{ℕ, ◌≡◌, ◌<◌, ◌-◌, ◌*◌, Bool, true, false, not, cond, eqb, List, [], ◌∷◌, refl}
+use Rattle.std.proofs.Common.{sym, ◌∙◌, ap, arith, inl, inr, mul-pos}
 use Rattle.std.specs.Prelude.{count_by}
 use Rattle.std.specs.List.{list_all, list_any, range_with_len}
 use Rattle.std.proofs.lemmas.Bool.{cases_eq, eq-eqb, ne_eqb}
@@ -12,11 +12,11 @@ use Rattle.fx_designs.specs.Aliases.{is_aliased}
 
 any_same : {X : Type 0} (p r : X → Bool) (xs : List X) → ((x : X) → p x ≡ r x) → list_any p xs ≡ list_any r xs
 any_same p r [] same = refl
-any_same p r (x ∷ xs) same = ap₂ (λ (a b : Bool). a || b) (same x) (any_same p r xs same)
+any_same p r (x ∷ xs) same = cc (same x, any_same p r xs same)
 
 all_same : {X : Type 0} (p r : X → Bool) (xs : List X) → ((x : X) → p x ≡ r x) → list_all p xs ≡ list_all r xs
 all_same p r [] same = refl
-all_same {X} p r (x ∷ xs) same = ap₂ (λ (a b : Bool). a && b) (same x) (all_same p r xs same)
+all_same {X} p r (x ∷ xs) same = cc (same x, all_same p r xs same)
 
 fails : (b : Bool) → eqb (cond (not b) 1 0) 0 ≡ b
 fails true = refl
@@ -32,7 +32,7 @@ times : (k n : ℕ) → 0 < k → eqb (k * n) 0 ≡ eqb n 0
 times k n h = elim (cases_eq n 0) [
   | inl z ↦ eq-eqb (k * n) 0 (ap (λ (n : ℕ). k * n) z ∙ omega arith) ∙ sym (eq-eqb n 0 z)
   | inr ne ↦
-      ne_eqb (k * n) 0 (λ e. let some : 0 < n = omega arith in absurd (omega (arith, mul-pos h some, e))) ∙ sym
+      ne_eqb (k * n) 0 (λ e. let some : 0 < n = omega arith in absurd (omega (arith, mul-pos h some))) ∙ sym
       (ne_eqb n 0 ne)
 ]
 
@@ -40,8 +40,7 @@ module _ (q k : ℕ) (runs rows : List (List ℕ)) (some : 0 < k)
     (often : (test : List ℕ → Bool) → count_by test rows ≡ k * count_by test runs) where
   all_told : (p : List ℕ → Bool) → list_all p rows ≡ list_all p runs
   all_told p =
-      all_counted p rows ∙ ap (λ (n : ℕ). eqb n 0) (often (λ x. not (p x))) ∙ times k (count_by (λ x. not (p x)) runs)
-      some ∙ sym (all_counted p runs)
+      cc (all_counted p rows, often (λ x. not (p x)), times k (count_by (λ x. not (p x)) runs) some, all_counted p runs)
 
   pub constant_told : (u : List ℕ) → is_constant q u rows ≡ is_constant q u runs
   unfolding is_constant

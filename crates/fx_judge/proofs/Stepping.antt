@@ -10,7 +10,7 @@ use Rattle.std.proofs.lemmas.List.{length-map, get_or-map, drop_more, drop_all, 
 use Rattle.std.proofs.lemmas.List.Elements.{All-replicate}
 use Rattle.std.proofs.lemmas.Grind.{flat_map-append}
 use Rattle.fx_runs.proofs.Grouping.{next_place}
-use Rattle.fx_designs.specs.Galois.{IsField, add, neg}
+use Rattle.fx_designs.specs.Galois.{IsField, neg}
 use Rattle.fx_designs.specs.Vectors.{IsVector, dot, minus, plus, scale, zeros, combination}
 use Rattle.fx_laws.proofs.Linear.{dot_code, dot-plus, dot-scale, dot-zeros}
 use Rattle.fx_laws.proofs.Ranks.{plus-assoc, plus-zero}
@@ -34,14 +34,13 @@ module _ (q : ℕ) (f : IsField q) where
       plus-assoc q f sum (scale q a r) (combination q m (drop (k + 1) u) (drop (k + 1) rows))
       ∙ ap (plus q sum)
       (ap₂ (λ (a : ℕ) (r : List ℕ). plus q (scale q a r) (combination q m (drop (k + 1) u) (drop (k + 1) rows))) ea er
-      ∙ sym (ap₂ (λ (v : List ℕ) (l : List (List ℕ)). combination q m v l) (drop_more u k 0 hu)
-      (drop_more rows k [] hr)))
+      ∙ sym (cc (drop_more u k 0 hu, drop_more rows k [] hr)))
 
   -- where no code is left
   pub combination_end : (m : ℕ) (u : List ℕ) (rows : List (List ℕ)) (k : ℕ) (sum : List ℕ) → length u ≤ k
       → IsVector q m sum → plus q sum (combination q m (drop k u) (drop k rows)) ≡ sum
   combination_end m u rows k sum past h =
-      ap (λ (v : List ℕ). plus q sum (combination q m v (drop k rows))) (drop_all k u past) ∙ plus-zero q m f sum h
+      cc (drop_all k u past, plus-zero q m f sum h)
 
   pub combination_begins : (m : ℕ) (x : List ℕ) → IsVector q m x → plus q (zeros m) x ≡ x
   combination_begins m x h = plus-comm q f (zeros m) x ∙ plus-zero q m f x h
@@ -51,8 +50,12 @@ module _ (q : ℕ) (f : IsField q) where
   minus_self s x h =
       ext q s f (minus q x x) (zeros s) (plus-vector q s f x (scale q (neg q 1) x) h (scale-vector q s f (neg q 1) x h))
       (zeros-vector q s f)
-      (λ p. dot-plus q f x (scale q (neg q 1) x) p ∙ ap (add q (dot q x p)) (dot-scale q f (neg q 1) x p) ∙ less q f
-      (dot q x p) (dot_code q f x p) ∙ sym (dot-zeros q f s p))
+      (λ p. cc (
+        dot-plus q f x (scale q (neg q 1) x) p,
+        dot-scale q f (neg q 1) x p,
+        less q f (dot q x p) (dot_code q f x p),
+        dot-zeros q f s p,
+      ))
 
   first_zero : (s : ℕ) (rows : List (List ℕ)) → 0 < length rows → IsVector q s (get_or rows 0 [])
       → get_or (row_differences q rows) 0 [] ≡ zeros s
@@ -94,20 +97,24 @@ pub turned : (q s : ℕ) (D rows : List (List ℕ)) (b : List Bool) (i : ℕ) �
     → IsStage q s D rows (basic_among q s D (i + 1)) (i + 1)
 turned q s D rows b i h =
     let one : suc i ≡ i + 1 = omega arith in
-    subst (λ (n : ℕ). IsStage q s D rows (basic_among q s D n) n) one
-    (subst (λ (b : List Bool). IsStage q s D rows b (suc i)) h.basics h)
+    rw (← one) (subst (λ (b : List Bool). IsStage q s D rows b (suc i)) h.basics h)
 
 -- an entry of the directions that have grown
 pub grown_entry : (q : ℕ) (rows : List (List ℕ)) (e x r : List ℕ) (i k : ℕ) → k < length rows → r ≡ get_or rows k []
     → (k ≡ i → x ≡ e) → (k ≢ i → x ≡ without_part q e i r) → x ≡ get_or (grown q rows e i) k []
 grown_entry q rows e x r i k low is same other = elim (cases_eq k i) [
   | inl h ↦
-      same h ∙ sym (ap (λ (n : ℕ). get_or (grown q rows e i) n []) h
-      ∙ get_or-set_same (map (without_part q e i) rows) i e [] (omega (arith, length-map rows (without_part q e i))))
+      cc (
+        same h,
+        get_or-set_same (map (without_part q e i) rows) i e []
+            (omega (arith, length-map rows (without_part q e i))),
+      )
   | inr ne ↦
-      other ne ∙ ap (without_part q e i) is
-      ∙ sym (get_or-set_other (map (without_part q e i) rows) i k e [] ne ∙ get_or-map (without_part q e i) rows k [] []
-      low)
+      cc (
+        other ne,
+        get_or-set_other (map (without_part q e i) rows) i k e [] ne,
+        get_or-map (without_part q e i) rows k [] [] low,
+      )
 ]
 
 pub grown_length : (q : ℕ) (rows : List (List ℕ)) (e : List ℕ) (i : ℕ) → length (grown q rows e i) ≡ length rows
@@ -120,9 +127,11 @@ rules_below q s rows n = flat_map (λ i. option_to_list (plan_rule q s rows i)) 
 more : (q s : ℕ) (rows : List (List ℕ)) (i : ℕ)
     → rules_below q s rows i ++ option_to_list (plan_rule q s rows i) ≡ rules_below q s rows (i + 1)
 more q s rows i =
-    ap (λ (l : List Rule). rules_below q s rows i ++ l) (sym (append-nil (option_to_list (plan_rule q s rows i))))
-    ∙ sym (flat_map-append (λ i. option_to_list (plan_rule q s rows i)) (range_with_len 0 i) (i ∷ []))
-    ∙ ap (flat_map (λ i. option_to_list (plan_rule q s rows i))) (next_place i)
+    cc (
+      append-nil (option_to_list (plan_rule q s rows i)),
+      flat_map-append (λ i. option_to_list (plan_rule q s rows i)) (range_with_len 0 i) (i ∷ []),
+      next_place i,
+    )
 
 first_is : (rows : List (List ℕ)) → 0 < length rows → first_row rows ≡ get_or rows 0 []
 first_is [] h = absurd (omega arith)
@@ -133,17 +142,15 @@ pub rule_more : (q s : ℕ) (rows : List (List ℕ)) (i : ℕ) (u : List ℕ) (r
     → rule ≡ rule_by q (get_or rows 0 []) i u → rules_below q s rows i ++ rule ∷ [] ≡ rules_below q s rows (i + 1)
 rule_more q s rows i u rule some e is =
     let told : plan_rule q s rows i ≡ Some rule =
-    ap (option_map (rule_by q (first_row rows) i)) e ∙ ap (λ (x : List ℕ). Some (rule_by q x i u)) (first_is rows some)
-    ∙ ap (λ (r : Rule). Some r) (sym is) in
-    ap (λ (o : Option Rule). rules_below q s rows i ++ option_to_list o) (sym told) ∙ more q s rows i
+    cc (first_is rows some) in
+    cc (more q s rows i)
 
 pub no_rule : (q s : ℕ) (rows : List (List ℕ)) (i : ℕ)
     → combination_for q s (row_differences q rows) (basic_among q s (row_differences q rows) i) i ≡ None
     → rules_below q s rows i ≡ rules_below q s rows (i + 1)
 no_rule q s rows i e =
     let told : plan_rule q s rows i ≡ None = ap (option_map (rule_by q (first_row rows) i)) e in
-    sym (append-nil (rules_below q s rows i)) ∙ ap (λ (o : Option Rule). rules_below q s rows i ++ option_to_list o)
-    (sym told) ∙ more q s rows i
+    cc (append-nil (rules_below q s rows i), more q s rows i)
 
 -- the mark of one more factor
 pub mark_more : (q s : ℕ) (D : List (List ℕ)) (i : ℕ) (b : Bool) (o : Option (List ℕ))
@@ -151,5 +158,4 @@ pub mark_more : (q s : ℕ) (D : List (List ℕ)) (i : ℕ) (b : Bool) (o : Opti
     → basic_among q s D i ++ b ∷ [] ≡ basic_among q s D (i + 1)
 mark_more q s D i b o e is =
     let one : suc i ≡ i + 1 = omega arith in
-    ap (λ (m : Bool). basic_among q s D i ++ m ∷ []) (sym is ∙ ap (λ (o : Option (List ℕ)). not (is_some o)) (sym e))
-    ∙ ap (basic_among q s D) one
+    cc

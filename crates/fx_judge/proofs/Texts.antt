@@ -1,8 +1,7 @@
 -- What a text of at most 1,048,576 bytes holds.
-use Rattle.std.proofs.Common.{ℕ, ◌≡◌, ◌≤◌, List, length, Option, None, Result, Ok, Err, sym, ◌∙◌, ap, ap₂}
+use Rattle.std.proofs.Common.{ℕ, ◌≡◌, ◌≤◌, List, length, None, Result, Ok, Err, sym, ◌∙◌, ap₂}
 use Rattle.std.specs.Prelude.{IfOk, IfErr, nat_lt}
 use Rattle.std.proofs.lemmas.Bool.{cond-false, le-ltb}
-use Rattle.fx_judge.specs.declared.fault.PlanFault.{PlanFault}
 use Rattle.fx_judge.specs.declared.fault.PlanStop.{PlanStop}
 use Rattle.fx_judge.specs.declared.fault.PlanStop.TheVariants.{Refused, NoMemory}
 use Rattle.fx_judge.specs.Plans.{PlanView}
@@ -26,5 +25,5 @@ pub fault_told : {T : Type 0} (q : ℕ) (text : List ℕ) → length text ≤ 10
     → IfErr result (λ stop. Explains stop (plan_of_text q text))
 fault_told q text short (Ok plan) first = tt
 fault_told q text short (Err (Refused found)) first =
-    within q text short ∙ ap (λ (o : Option PlanFault). plan_unless o (plan_in q (csv_records text))) first
+    cc (within q text short)
 fault_told q text short (Err NoMemory) first = tt

@@ -19,7 +19,7 @@ two_of q n =
     let a : choose (suc (suc n)) 1 * (q - 1) ^ 0 ≡ suc (suc n) =
     ap (λ (x : ℕ). choose (suc (suc n)) 1 * x) (power_none (q - 1)) ∙ (let e = one (suc (suc n)) in omega arith) in
     let b : choose (suc (suc n)) 2 * (q - 1) ^ 1 ≡ choose (suc (suc n)) 2 * (q - 1) =
-    ap (λ (x : ℕ). choose (suc (suc n)) 2 * x) (power_one (q - 1)) in
+    cc (power_one (q - 1)) in
     let z : listed_count q (suc (suc n)) 2
     ≡ 0 + choose (suc (suc n)) 1 * (q - 1) ^ 0 + choose (suc (suc n)) 2 * (q - 1) ^ 1 = refl in
     z ∙ ap₂ (λ (x y : ℕ). 0 + x + y) a b ∙ omega arith
@@ -31,7 +31,7 @@ total_is q (suc zero) =
     z ∙ ap (λ (x : ℕ). 0 + choose 1 1 * x) (power_none (q - 1)) ∙ omega arith
 total_is q (suc (suc n)) =
     let two : min 2 (suc (suc n)) ≡ 2 = omega arith in
-    ap (listed_count q (suc (suc n))) two ∙ two_of q n
+    cc (two_of q n)
 
 -- one more factor, of which there were i
 pub total_more : (q i : ℕ) → component_total q (i + 1) ≡ component_total q i + (1 + i * (q - 1))

@@ -1,6 +1,6 @@
 -- Two vectors of a regular plan are aliased or orthogonal.
 use Rattle.std.proofs.Common.{ℕ, ◌≡◌, ◌<◌, ◌-◌, ◌*◌, ◌⊎◌, Bool, true, false, cond, ◌&&◌, eqb, List}
-use Rattle.std.proofs.Common.{[], ◌∷◌, length, map, get_or, refl, sym, subst, ◌∙◌, ap, ap₂, arith, inl, inr, mul_comm}
+use Rattle.std.proofs.Common.{[], ◌∷◌, length, map, get_or, refl, sym, subst, ◌∙◌, ap, arith, inl, inr, mul_comm}
 use Rattle.std.specs.Prelude.{count_by}
 use Rattle.std.specs.List.{All, list_all, range_with_len}
 use Rattle.std.proofs.lemmas.Bool.{cases_Bool, cases_eq, cond-true, cond-false, both_ways, eq-eqb, eqb-true, ne_eqb}
@@ -18,7 +18,6 @@ use Rattle.fx_laws.proofs.Linear.{dot_code}
 use Rattle.fx_laws.proofs.Sums.{sum_by_map, sum_by-constant, sum_by-ext, sum_by-zero}
 use Rattle.fx_laws.proofs.Tables.{is_order-field}
 use Rattle.fx_laws.proofs.Tests.{bool_same, range_decides}
-use Rattle.fx_judge.specs.declared.kinship.Kinship.{Kinship}
 use Rattle.fx_judge.specs.declared.kinship.Kinship.TheVariants.{Aliased, Orthogonal, Partial}
 use Rattle.fx_judge.specs.Kinships.{are_orthogonal, joint_count, kinship}
 use Rattle.fx_judge.specs.Plans.{IsPlan, PlanView}
@@ -56,7 +55,7 @@ module _ (q : ℕ) (f : IsField q) where
     row_constant h = (
       add q h.0 (dot q w x0),
       All-from_get_or (λ x. dot q w x ≡ add q h.0 (dot q w x0)) rows [] (λ k low.
-          let x : List ℕ = get_or rows k [] in
+          let x = get_or rows k [] in
           back q f (dot q w x) (dot q w x0) h.0 (dot_code q f w x) (dot_code q f w x0)
           (sym (value x) ∙ All-get_or (λ x. dot q w (minus q x x0) ≡ h.0) rows k [] low
           (unmapped h.1))),
@@ -80,7 +79,7 @@ module _ (q : ℕ) (f : IsField q) where
     row_count : (y : ℕ) → y < q → count_of q w y rows ≡ count_of q w (relative y) (map (λ x. minus q x x0) rows)
     row_count y low =
         sum_by-ext (λ x. cond (eqb (dot q w x) y) 1 0) (λ x. cond (eqb (dot q w (minus q x x0)) (relative y)) 1 0) rows
-        (λ x. ap (λ (t : Bool). cond t 1 0) (row_test x y low))
+        (λ x. cc (row_test x y low))
         ∙ sym (sum_by_map (λ d. cond (eqb (dot q w d) (relative y)) 1 0) (λ x. minus q x x0) rows)
 
     row_balanced : IsBalanced q w (map (λ x. minus q x x0) rows) → IsBalanced q w rows
@@ -99,11 +98,11 @@ module _ (q : ℕ) (f : IsField q) where
           count_agree (λ x. eqb (dot q u x) a) (λ x. true) rows
           (All-from_get_or (λ x. eqb (dot q u x) a ≡ true) rows [] (λ k low. eq-eqb _ _ (at k low ∙ e)))
           ∙ all_counted rows in
-          let both : joint_count q rows u v a b ≡ count_of q v b rows =
+          let both =
           count_agree (λ x. eqb (dot q u x) a && eqb (dot q v x) b) (λ x. eqb (dot q v x) b) rows
           (All-from_get_or (λ x. (eqb (dot q u x) a && eqb (dot q v x) b) ≡ eqb (dot q v x) b) rows []
-          (λ k low. ap (λ (t : Bool). t && eqb (dot q v (get_or rows k [])) b) (eq-eqb _ _ (at k low ∙ e)))) in
-          ap₂ (λ (m n : ℕ). m * n) (sym all) both
+          (λ k low. cc (eq-eqb _ _ (at k low ∙ e)))) in
+          cc
       | inr ne ↦
           let none : count_of q u a rows ≡ 0 =
           count_agree (λ x. eqb (dot q u x) a) (λ x. false) rows
@@ -113,8 +112,7 @@ module _ (q : ℕ) (f : IsField q) where
           let both : joint_count q rows u v a b ≡ 0 =
           count_agree (λ x. eqb (dot q u x) a && eqb (dot q v x) b) (λ x. false) rows
           (All-from_get_or (λ x. (eqb (dot q u x) a && eqb (dot q v x) b) ≡ false) rows []
-          (λ k low. ap (λ (t : Bool). t && eqb (dot q v (get_or rows k [])) b)
-          (ne_eqb _ _ (λ e. ne (sym (at k low) ∙ e)))))
+          (λ k low. cc (ne_eqb _ _ (λ e. ne (sym (at k low) ∙ e)))))
           ∙ sum_by-zero rows in
           ap (λ (n : ℕ). length rows * n) both ∙ omega arith ∙ ap (λ (n : ℕ). n * count_of q v b rows) (sym none)
     ]
@@ -125,11 +123,13 @@ module _ (q : ℕ) (f : IsField q) where
     const_right : (u v : List ℕ) → IsConstant q v rows → (a b : ℕ)
         → length rows * joint_count q rows u v a b ≡ count_of q u a rows * count_of q v b rows
     const_right u v h a b =
-        ap (λ (n : ℕ). length rows * n)
-        (sum_by-ext (λ x. cond (eqb (dot q u x) a && eqb (dot q v x) b) 1 0)
-        (λ x. cond (eqb (dot q v x) b && eqb (dot q u x) a) 1 0) rows
-        (λ x. both_counted (eqb (dot q u x) a) (eqb (dot q v x) b)))
-        ∙ const_left v u h b a ∙ mul_comm (count_of q v b rows) (count_of q u a rows)
+        cc (
+          sum_by-ext (λ x. cond (eqb (dot q u x) a && eqb (dot q v x) b) 1 0)
+              (λ x. cond (eqb (dot q v x) b && eqb (dot q u x) a) 1 0) rows
+              (λ x. both_counted (eqb (dot q u x) a) (eqb (dot q v x) b)),
+          const_left v u h b a,
+          mul_comm (count_of q v b rows) (count_of q u a rows),
+        )
 
   module _ (rows : List (List ℕ)) (u v : List ℕ) where
     abbrev off : ℕ → List ℕ
@@ -152,10 +152,10 @@ module _ (q : ℕ) (f : IsField q) where
       flat : (y : ℕ) → y < q → IsBalanced q u rows → (c : ℕ) → c < q → q * count_of q (off c) y rows ≡ length rows
       flat y low bu c hc = elim (cases_eq c 0) [
         | inl z ↦
-            let same : count_of q (off c) y rows ≡ count_of q u y rows =
+            let same =
             sum_by-ext (λ x. cond (eqb (dot q (off c) x) y) 1 0) (λ x. cond (eqb (dot q u x) y) 1 0) rows
-            (λ x. ap (λ (d : ℕ). cond (eqb d y) 1 0) (value_at c z x)) in
-            ap (λ (n : ℕ). q * n) same ∙ balanced_count q f u rows bu y low
+            (λ x. cc (value_at c z x)) in
+            cc (balanced_count q f u rows bu y low)
         | inr ne ↦
             elim (each (off c)) [
               | inl k ↦ absurd (not_constant apart c (omega arith) hc k)
@@ -165,11 +165,13 @@ module _ (q : ℕ) (f : IsField q) where
         where
           value_at : (c : ℕ) → c ≡ 0 → (x : List ℕ) → dot q (off c) x ≡ dot q u x
           value_at c z x =
-              dot-minus q f u v c x
-              ∙ ap (λ (c : ℕ). add q (dot q u x) (mul q (neg q 1) (mul q c (dot q v x)))) z
-              ∙ ap (λ (n : ℕ). add q (dot q u x) (mul q (neg q 1) n))
-              (f.mul_comm 0 (dot q v x) ∙ f.mul_zero (dot q v x))
-              ∙ ap (add q (dot q u x)) (f.mul_zero (neg q 1)) ∙ f.add_zero (dot q u x) (dot_code q f u x)
+              cc (
+                dot-minus q f u v c x,
+                f.mul_comm 0 (dot q v x),
+                f.mul_zero (dot q v x),
+                f.mul_zero (neg q 1),
+                f.add_zero (dot q u x) (dot_code q f u x),
+              )
 
       at_values : (a b : ℕ) → a < q → b < q
           → length rows * joint_count q rows u v a b ≡ count_of q u a rows * count_of q v b rows
@@ -206,18 +208,18 @@ rows_of q f (x0 ∷ rows) w h = elim h [
 pub never_partial : (plan : PlanView) → IsPlan plan → is_regular_plan plan.q plan.rows ≡ true → (u v : List ℕ)
     → kinship plan.q plan.rows u v ≡ Partial → ⊥
 never_partial plan h regular u v partial =
-    let q : ℕ = plan.q in
-    let s : ℕ = length plan.names in
-    let D : List (List ℕ) = row_differences q plan.rows in
+    let q = plan.q in
+    let s = length plan.names in
+    let D = row_differences q plan.rows in
     let f = is_order-field q h.order in
     let hd = plan_differences plan h in
     let z = plan_zeros plan h D refl in
     let last = stage_at q f s D hd z s (omega arith) in
-    let full : 0 < length D = omega (arith, differences_len q f plan.rows, h.some_rows) in
+    let full : 0 < length D = omega (arith, differences_len q f plan.rows) in
     let even = (regular_even plan h).0 regular in
     let each = λ (w : List ℕ). rows_of q f plan.rows w
     (constant_or_balanced q f s D last.0 (basic_among q s D s) hd last.1 z full even w) in
-    let rest : Kinship = cond (are_orthogonal q plan.rows u v) Orthogonal Partial in
+    let rest = cond (are_orthogonal q plan.rows u v) Orthogonal Partial in
     elim (cases_Bool (is_aliased q plan.rows u v)) [
       | inl t ↦ let bad : Aliased ≡ Partial = sym (cond-true (is_aliased q plan.rows u v) Aliased rest t) ∙ partial in
           cc bad

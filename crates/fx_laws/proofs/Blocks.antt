@@ -1,6 +1,6 @@
 -- Inside the blocks of a rule matrix.
 use Rattle.std.proofs.Common.{ℕ, ◌≡◌, ◌<◌, ◌+◌, Bool, true, false, cond, eqb, List, [], ◌∷◌, map, length, take, drop}
-use Rattle.std.proofs.Common.{refl, sym, ◌∙◌, ap, arith, inl, inr, ◌⊎◌}
+use Rattle.std.proofs.Common.{refl, sym, ◌∙◌, arith, inl, inr, ◌⊎◌}
 use Rattle.std.specs.List.{sum_by, count_by, filter, AllByRecursion}
 use Rattle.std.proofs.lemmas.List.{drop-map}
 use Rattle.std.proofs.lemmas.List.Sums.{sum_by-cons}
@@ -28,8 +28,7 @@ sum_by-filter {X} f g (x ∷ xs) =
     λ b. elim b as
     (λ b. sum_by f (cond b (x ∷ filter g xs) (filter g xs)) ≡ cond b (f x) 0 + sum_by f (filter g xs))
     [ true ↦ sum_by-cons f x (filter g xs) | false ↦ omega arith ] in
-    one (g x) ∙ ap (λ n. cond (g x) (f x) 0 + n) (sum_by-filter f g xs) ∙ sym
-    (sum_by-cons (λ x. cond (g x) (f x) 0) x xs)
+    cc (one (g x), sum_by-filter f g xs, sum_by-cons (λ x. cond (g x) (f x) 0) x xs)
 
 -- what holds of each that passes
 pub held : {X : Type 0} (P : X → Type 0) (g : X → Bool) (xs : List X) → AllByRecursion (λ x. g x ≡ true → P x) xs
@@ -70,15 +69,14 @@ dot-front q (a ∷ u) (r ∷ rows) p = rw (dot-front q u rows p) refl
 pub tested : (q : ℕ) (f : IsField q) (x y z : ℕ) → x < q → y < q → z < q → eqb (add q x (add q y (neg q z))) y ≡ eqb x z
 tested q f x y z hx hy hz =
     let whole : add q z (add q y (neg q z)) ≡ y =
-    ap (add q z) (f.add_comm y (neg q z)) ∙ sym (f.add_assoc z (neg q z) y) ∙ ap (λ t. add q t y) (f.add_neg z) ∙
-    zero-add-code q f y hy in
+    cc (f.add_comm y (neg q z), f.add_assoc z (neg q z) y, f.add_neg z, zero-add-code q f y hy) in
     elim (cases_eq x z) [
-      | inl e ↦ eq-eqb _ y (ap (λ t. add q t (add q y (neg q z))) e ∙ whole) ∙ sym (eq-eqb x z e)
+      | inl e ↦ eq-eqb _ y (cc (e, whole)) ∙ sym (eq-eqb x z e)
       | inr ne ↦ ne_eqb _ y (λ e. ne (
           let d : ℕ = add q y (neg q z) in
           let off : (t : ℕ) → t < q → add q (add q t d) (neg q d) ≡ t =
-          λ t ht. f.add_assoc t d (neg q d) ∙ ap (add q t) (f.add_neg d) ∙ f.add_zero t ht in
-          sym (off x hx) ∙ ap (λ t. add q t (neg q d)) (e ∙ sym whole) ∙ off z hz)) ∙ sym (ne_eqb x z ne)
+          λ t ht. cc (f.add_assoc t d (neg q d), f.add_neg d, f.add_zero t ht) in
+          cc (off x hx, e, whole, off z hz))) ∙ sym (ne_eqb x z ne)
     ]
 
 -- moved along a vector on which the block rows are 0
@@ -103,8 +101,7 @@ module _ (q m s : ℕ) (f : IsField q) (rows : List (List ℕ)) (u : List ℕ) (
   blocks = drop s rows
 
   pub value : (p : List ℕ) → dot q u (levels_at q rows p) ≡ dot q sum_of p
-  value p = dot-front q u rows p ∙ ap (λ n. dot q u (levels_at q (take n rows) p)) hu.len ∙ dot-levels q f m u
-      (take s rows) p
+  value p = cc (dot-front q u rows p, hu.len, dot-levels q f m u (take s rows) p)
 
   block_value : (p : List ℕ) → drop s (levels_at q rows p) ≡ levels_at q blocks p
   block_value p = drop-map (λ r. dot q r p) s rows
@@ -126,9 +123,12 @@ module _ (q m s : ℕ) (f : IsField q) (rows : List (List ℕ)) (u : List ℕ) (
   module _ (p0 : List ℕ) (at : Separates q m blocks sum_of p0) where
     stays : (c : ℕ) (p : List ℕ) → levels_at q blocks (plus q p (scale q c p0)) ≡ levels_at q blocks p
     stays c p =
-        levels-plus q f blocks p (scale q c p0) ∙ ap (plus q (levels_at q blocks p))
-        (levels-scale q f blocks c p0 ∙ ap (scale q c) at.none)
-        ∙ plus-none q f (length blocks) c (levels_at q blocks p) (levels-vector q f blocks p)
+        cc (
+          levels-plus q f blocks p (scale q c p0),
+          levels-scale q f blocks c p0,
+          at.none,
+          plus-none q f (length blocks) c (levels_at q blocks p) (levels-vector q f blocks p),
+        )
 
     moves : (c : ℕ) (p : List ℕ) → c < q → dot q sum_of (plus q p (scale q c p0)) ≡ add q (dot q sum_of p) c
     moves c p h =
@@ -137,7 +137,7 @@ module _ (q m s : ℕ) (f : IsField q) (rows : List (List ℕ)) (u : List ℕ) (
 
     in_zero : (p : List ℕ) → levels_at q blocks p ≡ zeros (length blocks)
         → eqb (number q (drop s (levels_at q rows p))) 0 ≡ true
-    in_zero p e = eq-eqb _ 0 (ap (number q) (block_value p ∙ e) ∙ number-zeros q (length blocks))
+    in_zero p e = eq-eqb _ 0 (cc (block_value p, e, number-zeros q (length blocks)))
 
     balanced : IsBalancedInBlocks q s u (runs_of q m rows)
     balanced b = record {
@@ -174,7 +174,7 @@ module _ (q m s : ℕ) (f : IsField q) (rows : List (List ℕ)) (u : List ℕ) (
         let at_zero = at_point (zeros m) (zeros-vector q m f) (in_zero (zeros m) (levels-zeros q f blocks m)) in
         let at_one = at_point p0 at.point (in_zero p0 at.none) in
         let zero_is : 0 ≡ c =
-        sym (value (zeros m) ∙ dot_comm q f sum_of (zeros m) ∙ dot-zeros q f m sum_of) ∙ at_zero in
+        cc (value (zeros m), dot_comm q f sum_of (zeros m), dot-zeros q f m sum_of, at_zero) in
         let one_is : 1 ≡ c = sym (value p0 ∙ at.one) ∙ at_one in
         let bad : 0 ≡ 1 = zero_is ∙ sym one_is in
         omega arith
@@ -194,11 +194,14 @@ module _ (q m s : ℕ) (f : IsField q) (rows : List (List ℕ)) (u : List ℕ) (
             (λ p. eqb (number q (drop s (levels_at q rows p))) b ≡ true
             → dot q u (levels_at q rows p) ≡ dot q h.by (digits q (length blocks) b))
             (λ p hp e.
-            let is : number q (levels_at q blocks p) ≡ b = ap (number q) (sym (block_value p)) ∙ eqb-true _ _ e in
-            value p ∙ ap (λ v. dot q v p) (sym h.gives) ∙ sym (dot-levels q f m h.by blocks p)
-            ∙ ap (dot q h.by)
-            (sym (digits-number q (length blocks) (levels_at q blocks p) (levels-vector q f blocks p)) ∙ ap
-            (digits q (length blocks)) is)))))),
+            let is : number q (levels_at q blocks p) ≡ b = cc (block_value p, eqb-true _ _ e) in
+            cc (
+              value p,
+              h.gives,
+              dot-levels q f m h.by blocks p,
+              digits-number q (length blocks) (levels_at q blocks p) (levels-vector q f blocks p),
+              is,
+            )))))),
       )
 
 -- inside each block constant, where the sum is in the span of the block rows, and else inside each block balanced

@@ -1,7 +1,7 @@
 -- The candidates under a prefix are those of the subtrees of its children.
 use Rattle.std.proofs.Common.{◌≡◌, ℕ, suc, ◌+◌, ◌-◌, ◌<◌, Bool, true, false, ◌||◌, cond, eqb, List, [], ◌∷◌, ◌++◌, map}
 use Rattle.std.proofs.Common.{length, take, refl, sym, ap, ◌∙◌, ◌⊎◌, inl, inr, append_assoc, append-nil, arith}
-use Rattle.std.proofs.Common.{length-append, subst, eq-eqb, ne_eqb}
+use Rattle.std.proofs.Common.{length-append, eq-eqb, ne_eqb}
 use Rattle.std.specs.List.{filter, flat_map}
 use Rattle.std.proofs.lemmas.List.{map-append}
 use Rattle.std.proofs.lemmas.List.Elements.{filter-append}
@@ -18,12 +18,12 @@ use Rattle.fx_laws.proofs.Through.{filter-none}
 take-left : (c s : List ℕ) (k : ℕ) → take (length c + k) (c ++ s) ≡ c ++ take k s
 take-left [] s k = ap (λ n. take n s) (omega arith)
 take-left (x ∷ c) s k = let e : length (x ∷ c) + k ≡ suc (length c + k) = omega arith in
-    rw e (ap (λ l. x ∷ l) (take-left c s k))
+    rw e (cc (take-left c s k))
 
 pub parent-append : (c : List ℕ) (r : ℕ) (s : List ℕ) → parent (c ++ r ∷ s) ≡ c ++ parent (r ∷ s)
 parent-append c r s =
     let e : length (c ++ r ∷ s) - 1 ≡ length c + (length (r ∷ s) - 1) = omega (arith, length-append c (r ∷ s)) in
-    ap (λ n. take n (c ++ r ∷ s)) e ∙ take-left c (r ∷ s) (length (r ∷ s) - 1)
+    cc (e, take-left c (r ∷ s) (length (r ∷ s) - 1))
 
 pub parent-push : (p : List ℕ) (r : ℕ) → parent (p ++ r ∷ []) ≡ p
 parent-push p r = parent-append p r [] ∙ append-nil p
@@ -39,9 +39,9 @@ map-push p r (l ∷ ls) = cc (push-append p r l, map-push p r ls)
 -- what holds of a list holds without its last items
 pub closed-append : (P : List ℕ → Bool) → ((p : List ℕ) (r : ℕ) → P (p ++ r ∷ []) ≡ true → P p ≡ true) → (c s : List ℕ)
     → P (c ++ s) ≡ true → P c ≡ true
-closed-append P closed c [] h = subst (λ l. P l ≡ true) (append-nil c) h
+closed-append P closed c [] h = rw (append-nil c) at h
 closed-append P closed c (r ∷ s) h =
-    closed c r (closed-append P closed (c ++ r ∷ []) s (subst (λ l. P l ≡ true) (sym (push-append c r s)) h))
+    closed c r (closed-append P closed (c ++ r ∷ []) s (rw (push-append c r s) h))
 
 no_append : (P : List ℕ → Bool) → ((p : List ℕ) (r : ℕ) → P (p ++ r ∷ []) ≡ true → P p ≡ true) → (c s : List ℕ)
     → P c ≡ false → P (c ++ s) ≡ false
@@ -100,13 +100,17 @@ module _ (t : Tree) (law : IsTree t) where
         | inl holds ↦
             cond-true (is_candidate t c) _ _ (m ∙ holds) ∙ ap (λ l. c ∷ l) e
             ∙ (elim (cases_Bool (t.allowed c)) [
-              | inl a ↦ ap (λ l. c ∷ l) (sym (cond-true (t.allowed c) (under t k c) [] a))
-              | inr a ↦ ap (λ l. c ∷ l) (under-none k c long a ∙ sym (cond-false (t.allowed c) (under t k c) [] a))
+              | inl a ↦ cc (cond-true (t.allowed c) (under t k c) [] a)
+              | inr a ↦ cc (under-none k c long a, cond-false (t.allowed c) (under t k c) [] a)
             ])
             ∙ sym (cond-true (t.canonical c) (subtree t k c) [] holds)
         | inr fails ↦
-            cond-false (is_candidate t c) _ _ (m ∙ fails) ∙ e ∙ under-odd k c fails ∙ sym
-            (cond-false (t.canonical c) (subtree t k c) [] fails)
+            cc (
+              cond-false (is_candidate t c) _ _ (m ∙ fails),
+              e,
+              under-odd k c fails,
+              cond-false (t.canonical c) (subtree t k c) [] fails,
+            )
       ]
 
   flat-filter : (P : ℕ → Bool) (f : ℕ → List (List ℕ)) (r : ℕ) (rs : List ℕ)
@@ -123,11 +127,13 @@ module _ (t : Tree) (law : IsTree t) where
   over p k (r ∷ rs) ok =
       let ls : List (List ℕ) = map (λ s. r ∷ s) ([] ∷ lists t.rows k) in
       let more : List (List ℕ) = flat_map (λ x. map (λ s. x ∷ s) ([] ∷ lists t.rows k)) rs in
-      ap (filter (is_candidate t)) (map-append (λ s. p ++ s) ls more)
-      ∙ filter-append (is_candidate t) (map (λ s. p ++ s) ls) (map (λ s. p ++ s) more)
-      ∙ ap (λ l. l ++ filter (is_candidate t) (map (λ s. p ++ s) more)) (one p k r ok)
-      ∙ ap (λ l. cond (t.canonical (p ++ r ∷ [])) (subtree t k (p ++ r ∷ [])) [] ++ l) (over p k rs ok)
-      ∙ flat-filter (λ x. t.canonical (p ++ x ∷ [])) (λ x. subtree t k (p ++ x ∷ [])) r rs
+      cc (
+        map-append (λ s. p ++ s) ls more,
+        filter-append (is_candidate t) (map (λ s. p ++ s) ls) (map (λ s. p ++ s) more),
+        one p k r ok,
+        over p k rs ok,
+        flat-filter (λ x. t.canonical (p ++ x ∷ [])) (λ x. subtree t k (p ++ x ∷ [])) r rs,
+      )
 
   -- the candidates under p are those of its children's subtrees, in order
   pub under-step : (p : List ℕ) (k : ℕ) → (length p ≡ 0) ⊎ (t.allowed p ≡ true)

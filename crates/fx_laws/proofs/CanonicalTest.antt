@@ -11,7 +11,7 @@ use Rattle.std.proofs.lemmas.List.Folds.{list_any_at, list_any_none}
 use Rattle.std.proofs.lemmas.List.FromFn.{length-range_with_len, get_or-range_with_len}
 use Rattle.std.proofs.lemmas.List.Elements.{All-from_get_or}
 use Rattle.std.proofs.Math.Nat.{pow-le-pow_right}
-use Rattle.fx_designs.specs.Galois.{IsField, number, digits}
+use Rattle.fx_designs.specs.Galois.{IsField, digits}
 use Rattle.fx_designs.specs.Vectors.{zeros, vectors_of, last_nonzero, is_normal}
 use Rattle.fx_designs.specs.Spans.{in_span, rank_of}
 use Rattle.fx_designs.specs.Problems.{Dimensions, Requirement, AtResolution, ForEffects}
@@ -67,13 +67,11 @@ module _ (d : Dimensions) (f : IsField d.q) (rows : List ℕ) where
   pub zero_row : (k : ℕ) → k < length rows → slice_index rows k < d.q ^ d.m → row vectors k ≡ zeros d.m
       → slice_index rows k ≡ 0
   zero_row k h low z =
-      sym (number-digits d.q d.m (slice_index rows k) some low) ∙ ap (number d.q) (sym (row-is k h) ∙ z) ∙ number-zeros
-      d.q d.m
+      cc (number-digits d.q d.m (slice_index rows k) some low, row-is k h, z, number-zeros d.q d.m)
 
   row_zero : (k : ℕ) → k < length rows → slice_index rows k ≡ 0 → row vectors k ≡ zeros d.m
   row_zero k h z =
-      row-is k h ∙ ap (digits d.q d.m) (z ∙ sym (number-zeros d.q d.m)) ∙ digits-number d.q d.m (zeros d.m)
-      (zeros-vector d.q d.m f)
+      cc (row-is k h, z, number-zeros d.q d.m, digits-number d.q d.m (zeros d.m) (zeros-vector d.q d.m f))
 
   -- a row outside the span is not past the last unit vector
   pub room : (k : ℕ) → k < length rows → in_span d.q d.m (take k vectors) (row vectors k) ≡ false
@@ -119,28 +117,36 @@ module _ (d : Dimensions) (f : IsField d.q) (rows : List ℕ) where
             )
         | inr outside ↦
             let is : s ≡ false = span-is k h ∙ outside in
-            let test : follows_at d rows k ≡ eqb (slice_index rows k) (d.q ^ rank_at d rows k) = cond-false s _ _ is in (
+            let test : follows_at d rows k
+            ≡ eqb (slice_index rows k) (d.q ^ rank_at d rows k) = cond-false s _ _ is in (
               λ e.
                   let r : slice_index rows k ≡ d.q ^ rank_of d.q d.m (take k vectors) =
-                  eqb-true _ _ (sym test ∙ e) ∙ ap (λ n. d.q ^ n) (rank-is k) in
+                  cc (eqb-true _ _ (sym test ∙ e), rank-is k) in
                   record {
-                    new = λ out. row-is k h ∙ ap (digits d.q d.m) r ∙ digits-unit d.q d.m
-                        (rank_of d.q d.m (take k vectors)) f
-                        (pow_room d.q (rank_of d.q d.m (take k vectors)) d.m some (subst (λ z. z < d.q ^ d.m) r low));
+                    new = λ out. cc (
+                      row-is k h,
+                      r,
+                      digits-unit d.q d.m (rank_of d.q d.m (take k vectors)) f
+                          (pow_room d.q (rank_of d.q d.m (take k vectors)) d.m some (subst (λ z. z < d.q ^ d.m) r low)),
+                    );
                     old = λ i. absurd (both_ways _ outside i);
                   },
               λ w. test ∙ eq-eqb _ _
-                  (sym (number-digits d.q d.m (slice_index rows k) some low) ∙ ap (number d.q)
-                  (sym (row-is k h) ∙ w.new outside) ∙ number-unit d.q d.m (rank_of d.q d.m (take k vectors))
-                  (room k h outside (w.new outside)) ∙ ap (λ n. d.q ^ n) (sym (rank-is k))),
+                  (cc (
+                    number-digits d.q d.m (slice_index rows k) some low,
+                    row-is k h,
+                    w.new outside,
+                    number-unit d.q d.m (rank_of d.q d.m (take k vectors)) (room k h outside (w.new outside)),
+                    rank-is k,
+                  )),
             )
       ]
 
   reaches_decides : (k : ℕ) → Decides (reaches_at d rows k) (min d.s d.m ≤ rank_of d.q d.m (take k vectors) + (d.s - k))
   reaches_decides k = (
-    λ e. subst (λ n. min d.s d.m ≤ n + (d.s - k)) (rank-is k) (leb-true _ _ e),
+    λ e. rw (rank-is k) at (leb-true _ _ e),
     λ h. le-leb _ _
-        (subst (λ n. min d.s d.m ≤ n + (d.s - k)) (sym (rank-is k)) h),
+        (rw (rank-is k) h),
   )
 
   -- what falling rows ask of row k
@@ -153,16 +159,15 @@ module _ (d : Dimensions) (f : IsField d.q) (rows : List ℕ) where
   is_unit-at : (r i : ℕ) → i < d.m → r ≡ d.q ^ i → is_unit d r ≡ true
   is_unit-at r i h e =
       list_any_at (λ i. eqb r (d.q ^ i)) (range_with_len 0 d.m) i 0
-      (subst (λ n. i < n) (sym (length-range_with_len 0 d.m)) h)
-      (subst (λ z. eqb r (d.q ^ z) ≡ true) (sym (get_or-range_with_len 0 d.m i 0 h ∙ zero-add i)) (eq-eqb _ _ e))
+      (rw (length-range_with_len 0 d.m) h)
+      (rw (get_or-range_with_len 0 d.m i 0 h ∙ zero-add i) (eq-eqb _ _ e))
 
   is_unit-none : (r : ℕ) → ((i : ℕ) → i < d.m → r ≡ d.q ^ i → ⊥) → is_unit d r ≡ false
   is_unit-none r none =
       list_any_none (λ i. eqb r (d.q ^ i)) (range_with_len 0 d.m)
       (All-from_get_or (λ i. eqb r (d.q ^ i) ≡ false) (range_with_len 0 d.m) 0 (λ i h.
-      let low : i < d.m = subst (λ n. i < n) (length-range_with_len 0 d.m) h in
-      subst (λ z. eqb r (d.q ^ z) ≡ false) (sym (get_or-range_with_len 0 d.m i 0 low ∙ zero-add i))
-      (ne_eqb _ _ (none i low))))
+      let low : i < d.m = rw (length-range_with_len 0 d.m) at h in
+      rw (get_or-range_with_len 0 d.m i 0 low ∙ zero-add i) (ne_eqb _ _ (none i low))))
 
   falls_decides : (k : ℕ) → Decides (falls_at d rows k) (Falls k)
   falls_decides k =
@@ -215,7 +220,7 @@ module _ (d : Dimensions) (f : IsField d.q) (rows : List ℕ) where
     no_zero = λ a. h.no_zero k a low;
     no_unit = λ i a room. h.no_unit k i a low room;
     less = λ a. let e : (k - 1) + 1 ≡ k = omega arith in
-        subst (λ n. slice_index rows n < slice_index rows (k - 1)) e (h.falls (k - 1) (omega arith) (omega arith));
+        rw e at (h.falls (k - 1) (omega arith) (omega arith));
   }
 
   falls_ordered : ((k : ℕ) → k < min d.s (length rows) → Falls k) → AreFalling d.q d.m d.s rows

@@ -1,5 +1,5 @@
 -- An invertible change of the run indexes keeps every zero sum, and one makes the first independent rows unit vectors.
-use Rattle.std.proofs.Common.{ℕ, ◌≡◌, ◌<◌, zero, suc, List, [], ◌∷◌, map, length, refl, sym, subst, ◌∙◌, ap, ap₂, arith}
+use Rattle.std.proofs.Common.{ℕ, ◌≡◌, ◌<◌, zero, suc, List, [], ◌∷◌, map, length, refl, sym, subst, ◌∙◌, ap, arith}
 use Rattle.std.proofs.Common.{inl, inr, ◌⊎◌}
 use Rattle.std.proofs.lemmas.Bool.{cases_eq}
 use Rattle.fx_designs.specs.Galois.{add, mul, neg, inv, IsField}
@@ -11,10 +11,10 @@ use Rattle.fx_laws.proofs.Separation.{add-mul, neg-add, inv-mul, one-mul, nonzer
 
 pub dot-plus-right : (q : ℕ) (f : IsField q) (p v w : List ℕ) → dot q p (plus q v w) ≡ add q (dot q p v) (dot q p w)
 dot-plus-right q f p v w =
-    dot_comm q f p (plus q v w) ∙ dot-plus q f v w p ∙ ap₂ (add q) (dot_comm q f v p) (dot_comm q f w p)
+    cc (dot_comm q f p (plus q v w), dot-plus q f v w p, dot_comm q f v p, dot_comm q f w p)
 
 pub dot-scale-right : (q : ℕ) (f : IsField q) (c : ℕ) (p v : List ℕ) → dot q p (scale q c v) ≡ mul q c (dot q p v)
-dot-scale-right q f c p v = dot_comm q f p (scale q c v) ∙ dot-scale q f c v p ∙ ap (mul q c) (dot_comm q f v p)
+dot-scale-right q f c p v = cc (dot_comm q f p (scale q c v), dot-scale q f c v p, dot_comm q f v p)
 
 pub scale-none : (q m : ℕ) (f : IsField q) (v : List ℕ) → IsVector q m v → scale q 0 v ≡ zeros m
 scale-none q m f v h =
@@ -24,29 +24,34 @@ scale-none q m f v h =
 -- a product that is 0 has a factor that is 0
 pub mul-zero-either : (q : ℕ) (f : IsField q) (a b : ℕ) → a < q → b < q → 0 < b → mul q a b ≡ 0 → a ≡ 0
 mul-zero-either q f a b ha hb some e =
-    sym (f.mul_one a ha) ∙ ap (mul q a) (sym (f.mul_inv b some hb)) ∙ sym (f.mul_assoc a b (inv q b)) ∙ ap
-    (λ x. mul q x (inv q b)) e ∙ zero-mul q f (inv q b)
+    cc (f.mul_one a ha, f.mul_inv b some hb, f.mul_assoc a b (inv q b), e, zero-mul q f (inv q b))
 
 module _ (q m : ℕ) (f : IsField q) where
   pub change-zeros : (a : List ℕ → List ℕ) → IsChange q m a → a (zeros m) ≡ zeros m
   change-zeros a h =
       let z = zeros-vector q m f in
-      ap a (sym (scale-none q m f (zeros m) z)) ∙ h.multiples 0 (zeros m) z ∙ scale-none q m f (a (zeros m))
-      (h.vector (zeros m) z)
+      cc (
+        scale-none q m f (zeros m) z,
+        h.multiples 0 (zeros m) z,
+        scale-none q m f (a (zeros m)) (h.vector (zeros m) z),
+      )
 
   pub change-combination : (a : List ℕ → List ℕ) → IsChange q m a → (u : List ℕ) (rows : List (List ℕ))
       → AreVectors q m rows → combination q m u (map a rows) ≡ a (combination q m u rows)
   change-combination a h [] rows hr = sym (change-zeros a h)
   change-combination a h (c ∷ u) [] hr = sym (change-zeros a h)
   change-combination a h (c ∷ u) (r ∷ rows) hr =
-      ap₂ (plus q) (sym (h.multiples c r hr.0)) (change-combination a h u rows hr.1)
-      ∙ sym (h.sums (scale q c r) (combination q m u rows) (scale-vector q m f c r hr.0)
-      (combination-vector q m f u rows hr.1))
+      cc (
+        h.multiples c r hr.0,
+        change-combination a h u rows hr.1,
+        h.sums (scale q c r) (combination q m u rows) (scale-vector q m f c r hr.0)
+            (combination-vector q m f u rows hr.1),
+      )
 
   -- a change of the run indexes keeps every zero sum
   pub change_keeps : (a : List ℕ → List ℕ) → IsChange q m a → (u : List ℕ) (rows : List (List ℕ)) → AreVectors q m rows
       → combination q m u rows ≡ zeros m → combination q m u (map a rows) ≡ zeros m
-  change_keeps a h u rows hr e = change-combination a h u rows hr ∙ ap a e ∙ change-zeros a h
+  change_keeps a h u rows hr e = cc (change-combination a h u rows hr, e, change-zeros a h)
 
   pub change_keeps_back : (a : List ℕ → List ℕ) → IsChange q m a → (u : List ℕ) (rows : List (List ℕ))
       → AreVectors q m rows → combination q m u (map a rows) ≡ zeros m → combination q m u rows ≡ zeros m
@@ -59,7 +64,7 @@ module _ (q m : ℕ) (f : IsField q) where
   shear g w v = plus q v (scale q (dot q g v) w)
 
   shear-dot : (g w v p : List ℕ) → dot q (shear g w v) p ≡ add q (dot q v p) (mul q (dot q g v) (dot q w p))
-  shear-dot g w v p = dot-plus q f v (scale q (dot q g v) w) p ∙ ap (add q (dot q v p)) (dot-scale q f (dot q g v) w p)
+  shear-dot g w v p = cc (dot-plus q f v (scale q (dot q g v) w) p, dot-scale q f (dot q g v) w p)
 
   shear-vector : (g w v : List ℕ) → IsVector q m w → IsVector q m v → IsVector q m (shear g w v)
   shear-vector g w v hw hv = plus-vector q m f v (scale q (dot q g v) w) hv (scale-vector q m f (dot q g v) w hw)
@@ -74,26 +79,41 @@ module _ (q m : ℕ) (f : IsField q) where
     vector = λ v hv. shear-vector g w v hw hv;
     sums = λ x y hx hy. ext q m f _ _ (shear-vector g w (plus q x y) hw (plus-vector q m f x y hx hy))
         (plus-vector q m f _ _ (shear-vector g w x hw hx) (shear-vector g w y hw hy))
-        (λ p. shear-dot g w (plus q x y) p
-        ∙ ap₂ (add q) (dot-plus q f x y p)
-        (ap (λ c. mul q c (dot q w p)) (dot-plus-right q f g x y) ∙ add-mul q f (dot q g x) (dot q g y) (dot q w p))
-        ∙ add-add q f (dot q x p) (dot q y p) (mul q (dot q g x) (dot q w p)) (mul q (dot q g y) (dot q w p))
-        ∙ sym (dot-plus q f (shear g w x) (shear g w y) p ∙ ap₂ (add q) (shear-dot g w x p) (shear-dot g w y p)));
+        (λ p. cc (
+          shear-dot g w (plus q x y) p,
+          dot-plus q f x y p,
+          dot-plus-right q f g x y,
+          add-mul q f (dot q g x) (dot q g y) (dot q w p),
+          add-add q f (dot q x p) (dot q y p) (mul q (dot q g x) (dot q w p)) (mul q (dot q g y) (dot q w p)),
+          dot-plus q f (shear g w x) (shear g w y) p,
+          shear-dot g w x p,
+          shear-dot g w y p,
+        ));
     multiples =
         λ c x hx. ext q m f _ _ (shear-vector g w (scale q c x) hw (scale-vector q m f c x hx))
         (scale-vector q m f c _ (shear-vector g w x hw hx))
-        (λ p. shear-dot g w (scale q c x) p
-        ∙ ap₂ (add q) (dot-scale q f c x p)
-        (ap (λ d. mul q d (dot q w p)) (dot-scale-right q f c g x) ∙ f.mul_assoc c (dot q g x) (dot q w p))
-        ∙ sym (f.distributes c (dot q x p) (mul q (dot q g x) (dot q w p)))
-        ∙ sym (dot-scale q f c (shear g w x) p ∙ ap (mul q c) (shear-dot g w x p)));
+        (λ p. cc (
+          shear-dot g w (scale q c x) p,
+          dot-scale q f c x p,
+          dot-scale-right q f c g x,
+          f.mul_assoc c (dot q g x) (dot q w p),
+          f.distributes c (dot q x p) (mul q (dot q g x) (dot q w p)),
+          dot-scale q f c (shear g w x) p,
+          shear-dot g w x p,
+        ));
     zero_alone = λ v hv e.
         let d : ℕ = dot q g v in
         let k : ℕ = add q 1 (dot q g w) in
         let product : mul q d k ≡ 0 =
-        f.distributes d 1 (dot q g w) ∙ ap (λ x. add q x (mul q d (dot q g w))) (f.mul_one d (dot_code q f g v))
-        ∙ ap₂ (add q) (dot_comm q f g v) (ap (mul q d) (dot_comm q f g w)) ∙ sym (shear-dot g w v g) ∙ ap
-        (λ x. dot q x g) e ∙ dot-zeros q f m g in
+        cc (
+          f.distributes d 1 (dot q g w),
+          f.mul_one d (dot_code q f g v),
+          dot_comm q f g v,
+          dot_comm q f g w,
+          shear-dot g w v g,
+          e,
+          dot-zeros q f m g,
+        ) in
         let none : d ≡ 0 =
         elim (cases_eq k 0) [
           | inl z ↦ absurd (ne z)
@@ -135,8 +155,11 @@ past_short : (q m k : ℕ) (f : IsField q) (g : List ℕ) → ((v : List ℕ) �
     → (v : List ℕ) → IsVector q (suc m) v → IsShort (suc k) v → dot q (0 ∷ g) v ≡ 0
 past_short q m k f g h [] hv s = absurd (let e = hv.len in omega arith)
 past_short q m k f g h (b ∷ v) hv s =
-    ap (λ x. add q x (dot q g v)) (zero-mul q f b) ∙ zero-add-code q f (dot q g v) (dot_code q f g v) ∙ h v
-    (record { len = (let e = hv.len in omega arith); codes = hv.codes.1 }) s
+    cc (
+      zero-mul q f b,
+      zero-add-code q f (dot q g v) (dot_code q f g v),
+      h v (record { len = (let e = hv.len in omega arith); codes = hv.codes.1 }) s,
+    )
 
 pub short_or_told : (q m k : ℕ) (f : IsField q) (r : List ℕ) → IsVector q m r
     → IsShort k r ⊎ ((g : List ℕ) × Tells q m k r g)
@@ -211,11 +234,15 @@ unit_short (suc m) (suc k) = unit_short m k
 -- x + (y - x) is y
 pub add-over : (q : ℕ) (f : IsField q) (x y : ℕ) → x < q → y < q → add q x (add q y (mul q (neg q 1) x)) ≡ y
 add-over q f x y hx hy =
-    f.add_comm x _ ∙ f.add_assoc y (mul q (neg q 1) x) x
-    ∙ ap (add q y)
-    (ap (add q (mul q (neg q 1) x)) (sym (one-mul q f x hx)) ∙ sym (add-mul q f (neg q 1) 1 x) ∙ ap (λ z. mul q z x)
-    (neg-add q f 1) ∙ zero-mul q f x)
-    ∙ f.add_zero y hy
+    cc (
+      f.add_comm x _,
+      f.add_assoc y (mul q (neg q 1) x) x,
+      one-mul q f x hx,
+      add-mul q f (neg q 1) 1 x,
+      neg-add q f 1,
+      zero-mul q f x,
+      f.add_zero y hy,
+    )
 
 pub same-change : (q m : ℕ) → IsChange q m (λ v. v)
 same-change q m =
@@ -243,19 +270,28 @@ to_unit q m k f r g hr t =
     let w : List ℕ = plus q e (scale q (neg q 1) r) in
     let hw : IsVector q m w = plus-vector q m f e (scale q (neg q 1) r) he (scale-vector q m f (neg q 1) r hr) in
     let value : (p : List ℕ) → dot q w p ≡ add q (dot q e p) (mul q (neg q 1) (dot q r p)) =
-    λ p. dot-plus q f e (scale q (neg q 1) r) p ∙ ap (add q (dot q e p)) (dot-scale q f (neg q 1) r p) in
+    λ p. cc (dot-plus q f e (scale q (neg q 1) r) p, dot-scale q f (neg q 1) r p) in
     let unit_is : add q 1 (dot q g w) ≡ dot q g e =
-    ap (add q 1)
-    (dot_comm q f g w ∙ value g ∙ ap₂ (add q) (dot_comm q f e g) (ap (mul q (neg q 1)) (dot_comm q f r g ∙ t.at_row)))
-    ∙ add-over q f 1 (dot q g e) f.more_than_one (dot_code q f g e) in (
+    cc (
+      dot_comm q f g w,
+      value g,
+      dot_comm q f e g,
+      dot_comm q f r g,
+      t.at_row,
+      add-over q f 1 (dot q g e) f.more_than_one (dot_code q f g e),
+    ) in (
       shear q m f g w,
       record {
         change = shear-change q m f g w hw (λ z. t.at_unit (sym unit_is ∙ z));
         fixes = λ v hv s. shear-fixes q m f g w v hw hv (t.at_short v hv s);
         makes = ext q m f (shear q m f g w r) e (shear-vector q m f g w r hw hr) he
-            (λ p. shear-dot q m f g w r p ∙ ap (add q (dot q r p))
-            (ap (λ c. mul q c (dot q w p)) t.at_row ∙ one-mul q f (dot q w p) (dot_code q f w p) ∙ value p)
-            ∙ add-over q f (dot q r p) (dot q e p) (dot_code q f r p) (dot_code q f e p));
+            (λ p. cc (
+              shear-dot q m f g w r p,
+              t.at_row,
+              one-mul q f (dot q w p) (dot_code q f w p),
+              value p,
+              add-over q f (dot q r p) (dot q e p) (dot_code q f r p) (dot_code q f e p),
+            ));
       },
     )
 
@@ -283,7 +319,8 @@ form_after q m k f (r ∷ rows) b hb hr =
           )
       | inr g ↦
           let one = to_unit q m k f (b r) g.0 (hb.vector r hr.0) g.1 in
-          let rest = form_after q m (suc k) f rows (λ v. one.0 (b v)) (then-change q m b one.0 hb one.1.change) hr.1 in (
+          let rest = form_after q m (suc k) f rows (λ v. one.0 (b v)) (then-change q m b one.0 hb one.1.change)
+          hr.1 in (
             (λ v. rest.0 (one.0 v)),
             record {
               change = then-change q m one.0 rest.0 one.1.change rest.1.change;

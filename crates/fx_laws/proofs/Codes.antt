@@ -97,9 +97,12 @@ pieces-length f width same (x ∷ xs) =
 pub length-points : (q n : ℕ) → length (points q n) ≡ q ^ n
 length-points q zero = sym (pow-zero q)
 length-points q (suc n) =
-    pieces-length (λ c. map (λ p. c ∷ p) (points q n)) (q ^ n)
-    (λ c. length-map (points q n) (λ (p : List ℕ). c ∷ p) ∙ length-points q n) (codes_of q)
-    ∙ ap (λ (x : ℕ). x * q ^ n) (length-range_with_len 0 q) ∙ sym (pow-succ' q n)
+    cc (
+      pieces-length (λ c. map (λ p. c ∷ p) (points q n)) (q ^ n)
+          (λ c. length-map (points q n) (λ (p : List ℕ). c ∷ p) ∙ length-points q n) (codes_of q),
+      length-range_with_len 0 q,
+      pow-succ' q n,
+    )
 
 pub points-at : (q n k : ℕ) → 0 < q → k < q ^ n → get_or (points q n) k [] ≡ point_of q n k
 points-at q zero k some below =

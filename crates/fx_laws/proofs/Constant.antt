@@ -1,5 +1,5 @@
 -- What the test of constant vectors says: over the runs of rows, that the sum is zero.
-use Rattle.std.proofs.Common.{ℕ, ◌≡◌, ◌<◌, ◌↔◌, true, eqb, List, [], ◌∷◌, sym, subst, ◌∙◌, arith, zero-add}
+use Rattle.std.proofs.Common.{ℕ, ◌≡◌, ◌<◌, ◌↔◌, true, eqb, List, [], ◌∷◌, ◌∙◌, arith, zero-add}
 use Rattle.std.specs.Bool.{Decides}
 use Rattle.std.specs.List.{All, list_all}
 use Rattle.std.proofs.lemmas.Bool.{eq-eqb, eqb-true}
@@ -27,9 +27,8 @@ module _ (q : ℕ) (f : IsField q) (u : List ℕ) where
   unfolding is_constant
   constant_at xs c h all =
       list_any_at (λ c. list_all (λ x. eqb (dot q u x) c) xs) (codes_of q) c 0
-      (subst (λ n. c < n) (sym (length-range_with_len 0 q)) h)
-      (subst (λ c. list_all (λ x. eqb (dot q u x) c) xs ≡ true) (sym (get_or-range_with_len 0 q c 0 h ∙ zero-add c))
-      ((has_value xs c).1 all))
+      (rw (length-range_with_len 0 q) h)
+      (rw (get_or-range_with_len 0 q c 0 h ∙ zero-add c) ((has_value xs c).1 all))
 
   constant_holds : (xs : List (List ℕ)) → IsConstant q u xs → is_constant q u xs ≡ true
   constant_holds [] h =
@@ -37,7 +36,7 @@ module _ (q : ℕ) (f : IsField q) (u : List ℕ) where
       (All-from_get_or (λ x. dot q u x ≡ 0) [] [] (λ i low. absurd (omega arith)))
   constant_holds (x ∷ xs) h =
       let first : dot q u x ≡ h.0 = All-get_or (λ x. dot q u x ≡ h.0) (x ∷ xs) 0 [] (omega arith) h.1 in
-      constant_at (x ∷ xs) h.0 (subst (λ c. c < q) first (dot_code q f u x)) h.1
+      constant_at (x ∷ xs) h.0 (rw first at (dot_code q f u x)) h.1
 
   pub constant_decides : (xs : List (List ℕ)) → Decides (is_constant q u xs) (IsConstant q u xs)
   unfolding is_constant

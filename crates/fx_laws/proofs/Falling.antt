@@ -31,22 +31,22 @@ use Rattle.fx_laws.proofs.Weights.{weight-some, weight-none, weight-zeros}
 
 pub formed-join : (m k j n : ℕ) (xs ys : List (List ℕ)) → IsFormedTo m k xs j → IsFormedTo m j ys n
     → IsFormedTo m k (xs ++ ys) n
-formed-join m k j n [] ys h h' = subst (λ z. IsFormedTo m z ys n) (sym h) h'
+formed-join m k j n [] ys h h' = rw h h'
 formed-join m k j n (x ∷ xs) ys h h' = elim h [
   | inl s ↦ inl (s.0, formed-join m k j n xs ys s.1 h')
   | inr s ↦ inr (s.0, s.1, formed-join m (suc k) j n xs ys s.2 h')
 ]
 
-formed-room : (m k n : ℕ) (xs : List (List ℕ)) → IsFormedTo m k xs n → k ≤ m → n ≤ m
+pub formed-room : (m k n : ℕ) (xs : List (List ℕ)) → IsFormedTo m k xs n → k ≤ m → n ≤ m
 formed-room m k n [] h room = omega (arith, h)
 formed-room m k n (x ∷ xs) h room =
     elim h [ inl s ↦ formed-room m k n xs s.1 room | inr s ↦ formed-room m (suc k) n xs s.2 (omega (arith, s.0)) ]
 
-formed-others : (m n : ℕ) (xs : List (List ℕ)) → AllByRecursion (λ r. IsShort n r) xs → IsFormedTo m n xs n
+pub formed-others : (m n : ℕ) (xs : List (List ℕ)) → AllByRecursion (λ r. IsShort n r) xs → IsFormedTo m n xs n
 formed-others m n [] h = refl
 formed-others m n (x ∷ xs) h = inl (h.0, formed-others m n xs h.1)
 
-formed-units : (m k j n : ℕ) (xs : List (List ℕ)) → k + j ≡ n → n ≤ m → AllByRecursion (λ r. IsShort n r) xs
+pub formed-units : (m k j n : ℕ) (xs : List (List ℕ)) → k + j ≡ n → n ≤ m → AllByRecursion (λ r. IsShort n r) xs
     → IsFormedTo m k (units_from m k j ++ xs) n
 formed-units m k zero n xs e room h =
     subst (λ z. IsFormedTo m z xs n) (let e' : n ≡ k = omega arith in e') (formed-others m n xs h)
@@ -74,7 +74,7 @@ falls_at q (x ∷ []) k h below = absurd (omega arith)
 falls_at q (x ∷ y ∷ xs) zero h below = h.0.0
 falls_at q (x ∷ y ∷ xs) (suc k) h below =
     let e : suc (k + 1) ≡ suc k + 1 = omega arith in
-    subst (λ z. number q (row (x ∷ y ∷ xs) z) < number q (row (y ∷ xs) k)) e (falls_at q (y ∷ xs) k h.1 (omega arith))
+    rw (← e) (falls_at q (y ∷ xs) k h.1 (omega arith))
 
 module _ (q m : ℕ) (f : IsField q) where
   -- no word of weight 1 or 2
@@ -82,34 +82,39 @@ module _ (q m : ℕ) (f : IsField q) where
   IsWordFree xs =
       (u : List ℕ) → IsVector q (length xs) u → 0 < weight u → weight u ≤ 2 → combination q m u xs ≡ zeros m → ⊥
 
-  free-tail : (x : List ℕ) (xs : List (List ℕ)) → AreVectors q m (x ∷ xs) → IsWordFree (x ∷ xs) → IsWordFree xs
+  pub free-tail : (x : List ℕ) (xs : List (List ℕ)) → AreVectors q m (x ∷ xs) → IsWordFree (x ∷ xs) → IsWordFree xs
   free-tail x xs h free u hu some few e =
       free (0 ∷ u)
       (record { len = (let e' = hu.len in omega arith); codes = (omega (arith, f.more_than_one), hu.codes) })
       (rw (weight-none u) some) (rw (weight-none u) few)
-      (ap₂ (plus q) (scale-none q m f x h.0) e ∙ zeros-plus q m f (zeros m) (zeros-vector q m f))
+      (cc (scale-none q m f x h.0, e, zeros-plus q m f (zeros m) (zeros-vector q m f)))
 
   free-zero : (x : List ℕ) (xs : List (List ℕ)) → AreVectors q m (x ∷ xs) → IsWordFree (x ∷ xs) → x ≡ zeros m → ⊥
   free-zero x xs h free e =
       let z = zeros-vector q (length xs) f in
       let one : weight (1 ∷ zeros (length xs)) ≡ 1 =
-      weight-some 1 (zeros (length xs)) (omega arith) ∙ ap (λ (n : ℕ). 1 + n) (weight-zeros (length xs)) in
+      cc (weight-some 1 (zeros (length xs)) (omega arith), weight-zeros (length xs)) in
       free (1 ∷ zeros (length xs))
       (record { len = (let e' = z.len in omega arith); codes = (f.more_than_one, z.codes) }) (rw one (omega arith))
       (rw one (omega arith))
-      (ap₂ (plus q) (scale-one q m f x h.0 ∙ e) (none-combination q m f (length xs) xs h.1) ∙ zeros-plus q m f (zeros m)
-      (zeros-vector q m f))
+      (cc (
+        scale-one q m f x h.0,
+        e,
+        none-combination q m f (length xs) xs h.1,
+        zeros-plus q m f (zeros m) (zeros-vector q m f),
+      ))
 
   negated : (x : List ℕ) → IsVector q m x → plus q x (plus q (scale q (neg q 1) x) (zeros m)) ≡ zeros m
   negated x h =
       let n = scale-vector q m f (neg q 1) x h in
-      ap (plus q x) (plus-zero q m f (scale q (neg q 1) x) n)
-      ∙ ap (λ v. plus q v (scale q (neg q 1) x)) (sym (scale-one q m f x h))
-      ∙ ext q m f _ _ (plus-vector q m f _ _ (scale-vector q m f 1 x h) n) (zeros-vector q m f)
-      (λ p. dot-plus q f (scale q 1 x) (scale q (neg q 1) x) p ∙ ap₂ (add q) (dot-scale q f 1 x p)
-      (dot-scale q f (neg q 1) x p)
-      ∙ sym (add-mul q f 1 (neg q 1) (dot q x p)) ∙ ap (λ z. mul q z (dot q x p)) (f.add_neg 1) ∙ zero-mul q f
-      (dot q x p) ∙ sym (dot-zeros q f m p))
+      cc (
+        plus-zero q m f (scale q (neg q 1) x) n,
+        scale-one q m f x h,
+        ext q m f _ _ (plus-vector q m f _ _ (scale-vector q m f 1 x h) n) (zeros-vector q m f)
+            (λ p. dot-plus q f (scale q 1 x) (scale q (neg q 1) x) p
+            ∙ ap₂ (add q) (dot-scale q f 1 x p) (dot-scale q f (neg q 1) x p) ∙ sym (add-mul q f 1 (neg q 1) (dot q x p))
+            ∙ ap (λ z. mul q z (dot q x p)) (f.add_neg 1) ∙ zero-mul q f (dot q x p) ∙ sym (dot-zeros q f m p)),
+      )
 
   differs : (x : List ℕ) (ys : List (List ℕ)) → IsVector q m x → AreVectors q m ys
       → ((u : List ℕ) → IsVector q (length ys) u → weight u ≡ 1 → plus q x (combination q m u ys) ≡ zeros m → ⊥)
@@ -119,29 +124,28 @@ module _ (q m : ℕ) (f : IsField q) where
       let z = zeros-vector q (length ys) f in (
         (λ e. free (neg q 1 ∷ zeros (length ys))
             (record { len = (let e' = z.len in omega arith); codes = (f.neg_code 1, z.codes) })
-            (weight-some (neg q 1) (zeros (length ys)) (neg-positive q f) ∙ ap (λ (n : ℕ). 1 + n)
-            (weight-zeros (length ys)))
-            (ap (λ v. plus q x (plus q (scale q (neg q 1) v) (combination q m (zeros (length ys)) ys))) (sym e) ∙ ap
-            (λ v. plus q x (plus q (scale q (neg q 1) x) v)) (none-combination q m f (length ys) ys h.1) ∙ negated x
-            hx)),
+            (cc (weight-some (neg q 1) (zeros (length ys)) (neg-positive q f), weight-zeros (length ys)))
+            (cc (e, none-combination q m f (length ys) ys h.1, negated x hx))),
         differs x ys hx h.1
             (λ u hu one e. free (0 ∷ u)
             (record { len = (let e' = hu.len in omega arith); codes = (omega (arith, f.more_than_one), hu.codes) })
             (weight-none u ∙ one)
-            (ap (plus q x)
-            (ap (λ v. plus q v (combination q m u ys)) (scale-none q m f y h.0) ∙ zeros-plus q m f
-            (combination q m u ys) (combination-vector q m f u ys h.1)) ∙ e)),
+            (cc (
+              scale-none q m f y h.0,
+              zeros-plus q m f (combination q m u ys) (combination-vector q m f u ys h.1),
+              e,
+            ))),
       )
 
   free-differs : (x : List ℕ) (xs : List (List ℕ)) → AreVectors q m (x ∷ xs) → IsWordFree (x ∷ xs)
       → AllByRecursion (λ y. x ≡ y → ⊥) xs
   free-differs x xs h free = differs x xs h.0 h.1 (λ u hu one e.
-      let two : weight (1 ∷ u) ≡ 2 = weight-some 1 u (omega arith) ∙ ap (λ (n : ℕ). 1 + n) one in
+      let two : weight (1 ∷ u) ≡ 2 = cc (weight-some 1 u (omega arith), one) in
       free (1 ∷ u) (record { len = (let e' = hu.len in omega arith); codes = (f.more_than_one, hu.codes) })
       (rw two (omega arith)) (rw two (omega arith))
-      (ap (λ v. plus q v (combination q m u xs)) (scale-one q m f x h.0) ∙ e))
+      (cc (scale-one q m f x h.0, e)))
 
-  free-nonzero : (xs : List (List ℕ)) → AreVectors q m xs → IsWordFree xs → AllByRecursion (λ r. r ≡ zeros m → ⊥) xs
+  pub free-nonzero : (xs : List (List ℕ)) → AreVectors q m xs → IsWordFree xs → AllByRecursion (λ r. r ≡ zeros m → ⊥) xs
   free-nonzero [] h free = tt
   free-nonzero (x ∷ xs) h free = (free-zero x xs h free, free-nonzero xs h.1 (free-tail x xs h free))
 
@@ -154,12 +158,12 @@ module _ (q m : ℕ) (f : IsField q) where
       let apart : number q x ≡ number q y → ⊥ = λ e. d.0 (number-same q m f x y hx h.0 e) in
       (omega arith, strict_below x ys hx h.1 d.1 w.1)
 
-  free-strict : (xs : List (List ℕ)) → AreVectors q m xs → IsWordFree xs → FallsWeakly q xs → FallsStrictly q xs
+  pub free-strict : (xs : List (List ℕ)) → AreVectors q m xs → IsWordFree xs → FallsWeakly q xs → FallsStrictly q xs
   free-strict [] h free w = tt
   free-strict (x ∷ xs) h free w =
       (strict_below x xs h.0 h.1 (free-differs x xs h free) w.0, free-strict xs h.1 (free-tail x xs h free) w.1)
 
-  free-units : (k j : ℕ) (zs : List (List ℕ)) → AreVectors q m (units_from m k j ++ zs)
+  pub free-units : (k j : ℕ) (zs : List (List ℕ)) → AreVectors q m (units_from m k j ++ zs)
       → IsWordFree (units_from m k j ++ zs)
       → IsWordFree zs × ((i : ℕ) → k ≤ i → i < k + j → AllByRecursion (λ y. unit m i ≡ y → ⊥) zs)
   free-units k zero zs h free = (free, λ i low high. absurd (omega arith))
@@ -170,7 +174,7 @@ module _ (q m : ℕ) (f : IsField q) where
       (free-differs (unit m k) (units_from m (suc k) j ++ zs) h free)).1 in (
         rest.0,
         λ i low high. elim (cases_eq k i) [
-          | inl e ↦ subst (λ z. AllByRecursion (λ y. unit m z ≡ y → ⊥) zs) e here
+          | inl e ↦ rw e at here
           | inr ne ↦
               rest.1 i (omega arith) (omega arith)
         ],
@@ -188,8 +192,12 @@ module _ (q m : ℕ) (f : IsField q) where
       let assoc : (units_from m 0 n ++ os) ++ ys ≡ units_from m 0 n ++ (os ++ ys) =
       append_assoc (units_from m 0 n) os ys in
       let behind : (i : ℕ) → i < length os → row ((units_from m 0 n ++ os) ++ ys) (n + i) ≡ row os i = λ i hi.
-      ap (λ z. row z (n + i)) assoc ∙ ap (λ z. row (units_from m 0 n ++ (os ++ ys)) (z + i)) (sym (length-units m 0 n))
-      ∙ get_or-append-add (units_from m 0 n) (os ++ ys) i [] ∙ get_or_append_left os ys [] i hi in
+      cc (
+        assoc,
+        length-units m 0 n,
+        get_or-append-add (units_from m 0 n) (os ++ ys) i [],
+        get_or_append_left os ys [] i hi,
+      ) in
       let at : (k : ℕ) → min s m ≤ k → k < min s (length ((units_from m 0 n ++ os) ++ ys))
       → (i : ℕ) × (i < length os) × (k ≡ n + i) = λ k low high. (k - n, omega arith, omega arith) in
       record {
@@ -244,7 +252,7 @@ module _ (q m : ℕ) (f : IsField q) where
       let second : Follows q m Forbidden x1 y1 x2 y2 =
       change_follows q m f Forbidden a made.1.change x1 y1 first.factor_vectors first.block_vectors in
       let formed : IsFormedTo m 0 (x2 ++ y2) made.1.rank =
-      subst (λ r. IsFormedTo m 0 r made.1.rank) (map-append a x1 y1) made.1.formed in
+      rw (map-append a x1 y1) at made.1.formed in
       let cs : List ℕ = map (normal_factor q m f) x2 in
       let ds : List ℕ = map (normal_factor q m f) y2 in
       let x3 : List (List ℕ) = scaled q cs x2 in
@@ -252,20 +260,17 @@ module _ (q m : ℕ) (f : IsField q) where
       let ls : length x2 ≡ s = second.factors ∙ first.factors in
       let lt : length y2 ≡ t = second.blocks ∙ first.blocks in
       let closed' : IsScalable q (length x2) (length y2) Forbidden =
-      subst (λ k. IsScalable q k (length y2) Forbidden) (sym ls)
-      (subst (λ k. IsScalable q s k Forbidden) (sym lt) closed) in
+      rw ls (subst (λ k. IsScalable q s k Forbidden) (sym lt) closed) in
       let third : Follows q m Forbidden x2 y2 x3 y3 =
       scale_follows q m f Forbidden cs ds x2 y2 closed' (factors-scalars q m f x2 second.factor_vectors)
       (factors-scalars q m f y2 second.block_vectors)
       (length-map x2 (normal_factor q m f)) (length-map y2 (normal_factor q m f)) second.factor_vectors
       second.block_vectors in
       let formed' : IsFormedTo m 0 (x3 ++ y3) made.1.rank =
-      subst (λ r. IsFormedTo m 0 r made.1.rank) (scaled-append q m f x2 y2)
-      (formed-scaled q m f 0 made.1.rank (x2 ++ y2) formed) in
+      rw (scaled-append q m f x2 y2) at (formed-scaled q m f 0 made.1.rank (x2 ++ y2) formed) in
       let normal =
       each-append_parts (λ v. (v ≡ zeros m) ⊎ IsNormal v) x3 y3
-      (subst (λ r. AllByRecursion (λ v. (v ≡ zeros m) ⊎ IsNormal v) r) (scaled-append q m f x2 y2)
-      (each_normal q m f (x2 ++ y2)
+      (rw (scaled-append q m f x2 y2) at (each_normal q m f (x2 ++ y2)
       (each-append (λ r. IsVector q m r) x2 y2 second.factor_vectors second.block_vectors))) in
       let split = formed-append m 0 made.1.rank x2 y2 formed in
       let n : ℕ = split.0 in
@@ -285,8 +290,7 @@ module _ (q m : ℕ) (f : IsField q) where
       let is : reordered ks x3 ≡ us ++ os =
       reordered-append parts.swaps behind.0 x3 ∙ ap (reordered behind.0) parts.is ∙ behind.1 in
       let fourth : Follows q m Forbidden x3 y3 (us ++ os) y3 =
-      subst (λ z. Follows q m Forbidden x3 y3 z y3) is
-      (reorder_follows q m f Forbidden ks x3 y3 free third.factor_vectors third.block_vectors) in
+      rw is at (reorder_follows q m f Forbidden ks x3 y3 free third.factor_vectors third.block_vectors) in
       let all : Follows q m Forbidden xs ys (us ++ os) y3 =
       follows-trans q m Forbidden xs ys x1 y1 (us ++ os) y3 first
       (follows-trans q m Forbidden x1 y1 x2 y2 (us ++ os) y3 second
@@ -296,8 +300,7 @@ module _ (q m : ℕ) (f : IsField q) where
       formed-units m 0 parts.count n os parts.total room
       (each-reordered (λ r. IsShort n r) sorted.0 parts.others parts.short) in
       let normal_4 =
-      subst (λ z. AllByRecursion (λ v. (v ≡ zeros m) ⊎ IsNormal v) z) is
-      (each-reordered (λ v. (v ≡ zeros m) ⊎ IsNormal v) ks x3 normal.0) in
+      rw is at (each-reordered (λ v. (v ≡ zeros m) ⊎ IsNormal v) ks x3 normal.0) in
       let rank_4 : rank_of q m (us ++ os) + 0 ≡ n =
       rank-formed q m f 0 n [] (us ++ os) all.factor_vectors (spans-none q m f) formed_4 in
       let len : length (us ++ os) ≡ s = all.factors in
@@ -305,7 +308,7 @@ module _ (q m : ℕ) (f : IsField q) where
       (let e = length-append us os in let e' = length-units m 0 parts.count in omega arith) in
       let word_free : IsWordFree (us ++ os) = λ u hu some few e.
       (all.allowed ok).none u (zeros (length y3)) hu (zeros-vector q (length y3) f)
-      (subst (λ k. Forbidden u (zeros k)) (sym all.blocks) (light u (subst (λ k. IsVector q k u) len hu) some few))
+      (rw all.blocks (light u (subst (λ k. IsVector q k u) len hu) some few))
       (ap₂ (plus q) e (none-combination q m f (length y3) y3 all.block_vectors) ∙ zeros-plus q m f (zeros m)
       (zeros-vector q m f)) in (
         us ++ os,

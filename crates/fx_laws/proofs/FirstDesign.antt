@@ -44,7 +44,7 @@ module _ (p : Problem) where
         let zero_is : p.dimensions.s + p.dimensions.t ≡ 0 = omega arith in
         let test = λ (rows : List ℕ). not p.least || is_of_least_pattern p rows in
         let empty : find test (filter (is_design p) (prefixes p)) ≡ None =
-        ap (λ n. find test (filter (is_design p) (lists (p.dimensions.q ^ p.dimensions.m) n))) zero_is in
+        cc zero_is in
         let bad : Some rows ≡ None = sym h ∙ empty in
         absurd (cc)
   ]
@@ -56,7 +56,7 @@ module _ (p : Problem) where
         let least = λ (rows : List ℕ). not p.least || is_of_least_pattern p rows in
         find-filter (is_design p) least (prefixes p)
         ∙ find_agree (λ rows. is_design p rows && least rows) (is_design p)
-        (λ rows. ap (λ b. is_design p rows && b) (or_left _ _ (ap not plain)) ∙ and-true (is_design p rows))
+        (λ rows. cc (or_left _ _ (ap not plain), and-true (is_design p rows)))
         (prefixes p)
 
     pub first-answer : 0 < p.dimensions.s + p.dimensions.t → (rows : List ℕ) → IsFirstDesign p rows
@@ -68,7 +68,7 @@ module _ (p : Problem) where
     pub none-design : 0 < p.dimensions.s + p.dimensions.t → answer p ≡ None → (rows : List ℕ) → is_design p rows ≡ false
     none-design some none rows = false_from_ne_true (is_design p rows) (λ h.
         let found = found_first (is_design p) (prefixes p) rows (lists-sorted _ _) (there some rows h) h in
-        let bad : Some found.0 ≡ None = sym found.1 ∙ sym answer-find ∙ none in
+        let bad : Some found.0 ≡ None = cc (found.1, answer-find, none) in
         absurd (cc))
 
     pub answer-first : (rows : List ℕ) → answer p ≡ Some rows → IsFirstDesign p rows

@@ -1,11 +1,11 @@
 -- Steps from one matrix to another that keep what is allowed and make no more words.
 use Rattle.std.proofs.Common.{ℕ, ◌≡◌, ◌<◌, ◌≤◌, ◌+◌, ◌-◌, min, zero, suc, List, [], ◌∷◌, ◌++◌, map, length, refl, sym}
-use Rattle.std.proofs.Common.{subst, ◌∙◌, ap, ap₂, arith, inl, inr, ◌⊎◌, le_trans}
+use Rattle.std.proofs.Common.{subst, ◌∙◌, arith, inl, inr, ◌⊎◌, le_trans}
 use Rattle.std.specs.List.{AllByRecursion}
 use Rattle.std.proofs.lemmas.List.{length-map, map-append}
 use Rattle.std.proofs.lemmas.Bool.{cases_eq, cases_lt, cases_Bool}
 use Rattle.fx_base.proofs.Lists.{each-append}
-use Rattle.fx_designs.specs.Galois.{add, mul, inv, IsField}
+use Rattle.fx_designs.specs.Galois.{inv, IsField}
 use Rattle.fx_designs.specs.Vectors.{dot, plus, scale, zeros, IsVector}
 use Rattle.fx_laws.specs.Spans.{InSpan}
 use Rattle.fx_designs.specs.Spans.{in_span, rank_after, rank_of}
@@ -81,9 +81,11 @@ short-unit q (suc m) zero f (a ∷ v) h s =
     rw (s.0, zero-mul q f 1, dot_comm q f v (zeros m), dot-zeros q f m v)
     (f.add_zero 0 (omega (arith, f.more_than_one)))
 short-unit q (suc m) (suc k) f (a ∷ v) h s =
-    ap (λ x. add q x (dot q v (unit m k))) (f.mul_zero a) ∙ zero-add-code q f (dot q v (unit m k))
-    (dot_code q f v (unit m k)) ∙ short-unit q m k f v
-    (record { len = (let e = h.len in omega arith); codes = h.codes.1 }) s
+    cc (
+      f.mul_zero a,
+      zero-add-code q f (dot q v (unit m k)) (dot_code q f v (unit m k)),
+      short-unit q m k f v (record { len = (let e = h.len in omega arith); codes = h.codes.1 }) s,
+    )
 
 pub unit-unit : (q m k : ℕ) (f : IsField q) → k < m → dot q (unit m k) (unit m k) ≡ 1
 unit-unit q zero k f h = absurd (omega arith)
@@ -109,11 +111,15 @@ module _ (q m : ℕ) (f : IsField q) where
     block_vectors = map-vectors q m f a h ys hy;
     allowed = λ ok. record {
       none = λ u b hu hb bad e.
-          ok.none u b (subst (λ n. IsVector q n u) (length-map xs a) hu)
-          (subst (λ n. IsVector q n b) (length-map ys a) hb) bad
+          ok.none u b (rw (length-map xs a) at hu)
+          (rw (length-map ys a) at hb) bad
           (h.zero_alone _ (plus-vector q m f _ _ (combination-vector q m f u xs hx) (combination-vector q m f b ys hy))
-          (h.sums _ _ (combination-vector q m f u xs hx) (combination-vector q m f b ys hy) ∙ ap₂ (plus q)
-          (sym (change-combination q m f a h u xs hx)) (sym (change-combination q m f a h b ys hy)) ∙ e));
+          (cc (
+            h.sums _ _ (combination-vector q m f u xs hx) (combination-vector q m f b ys hy),
+            change-combination q m f a h u xs hx,
+            change-combination q m f a h b ys hy,
+            e,
+          )));
     };
     fewer = λ k. fewer_words q m f xs (map a xs) k hx (map-vectors q m f a h xs hx) (length-map xs a)
         (λ u hu e. change_keeps_back q m f a h u xs hx e);
@@ -136,8 +142,11 @@ module _ (q m : ℕ) (f : IsField q) where
 
   pub span-head : (y : List ℕ) (ys : List (List ℕ)) → IsVector q m y → AreVectors q m ys → InSpan q m (y ∷ ys) y
   span-head y ys hy h = more_span q m f y ys y 1 f.more_than_one hy h hy (zeros m)
-      (λ p. ap₂ (add q) (one-mul q f (dot q y p) (dot_code q f y p)) (dot-zeros q f m p) ∙ f.add_zero (dot q y p)
-      (dot_code q f y p))
+      (λ p. cc (
+        one-mul q f (dot q y p) (dot_code q f y p),
+        dot-zeros q f m p,
+        f.add_zero (dot q y p) (dot_code q f y p),
+      ))
       (record {
         by = zeros (length ys);
         vector = zeros-vector q (length ys) f;
@@ -217,7 +226,7 @@ module _ (q m : ℕ) (f : IsField q) where
             let first = change_follows Forbidden a made.1.change xs ys hx hy in
             let split =
             formed-append m 0 made.1.rank x1 y1
-            (subst (λ r. IsFormedTo m 0 r made.1.rank) (map-append a xs ys) made.1.formed) in
+            (rw (map-append a xs ys) at made.1.formed) in
             let j : ℕ = split.0 in
             let rank_1 : rank_of q m x1 ≡ rank_of q m xs = rank-change q m f a made.1.change [] xs tt hx in
             let rank_j : rank_of q m x1 + 0 ≡ j =
@@ -259,13 +268,12 @@ module _ (q m : ℕ) (f : IsField q) where
                   dot-scale-right q f (inv q c) w p ∙ inv-mul q f c some (dot_code q f w p) in
                   let zx' : ZeroAt q m f p' x1 =
                   each-weaker (λ r. dot q r p ≡ 0) (λ r. dot q r p' ≡ 0) x1
-                  (λ x hv z. dot-scale-right q f (inv q c) x p ∙ ap (mul q (inv q c)) z ∙ f.mul_zero (inv q c))
+                  (λ x hv z. cc (dot-scale-right q f (inv q c) x p, z, f.mul_zero (inv q c)))
                   first.factor_vectors zx in
                   go w p' o.1 one zx'
                   (inr (
                     o.2,
-                    subst (λ k. IsBlind q k (length y1) Forbidden) (sym (first.factors ∙ ex))
-                        (subst (λ k. IsBlind q s k Forbidden) (sym (first.blocks ∙ ey)) blind),
+                    rw (first.factors ∙ ex) (subst (λ k. IsBlind q s k Forbidden) (sym (first.blocks ∙ ey)) blind),
                   ))
             ]
       ]

@@ -61,7 +61,7 @@ last-scale q f c (a ∷ r) some hc h =
     let rest = last-scale q f c r some hc h.1 in
     elim (cases_eq (last_nonzero r) 0) [
       | inl e ↦
-          let none : last_nonzero (scale q c r) ≡ 0 = rest ∙ ap (mul q c) e ∙ f.mul_zero c in
+          let none : last_nonzero (scale q c r) ≡ 0 = cc (rest, e, f.mul_zero c) in
           rw (none, e) refl
       | inr ne ↦
           let some' : last_nonzero (scale q c r) ≡ 0 → ⊥ =
@@ -88,18 +88,17 @@ module _ (q m : ℕ) (f : IsField q) where
   new_at bs (r ∷ rows) k n zero h rk hr formed below out =
       elim formed [
         | inl s ↦ (absurd
-            (both_ways (in_span q m bs r) (subst (λ z. in_span q m z r ≡ false) (append-nil bs) out)
+            (both_ways (in_span q m bs r) (rw (append-nil bs) at out)
             (in_span-holds q m f bs r (h.all r hr.0 s.0))))
-        | inr s ↦ s.1 ∙ ap (unit m) (sym (ap (λ z. rank_of q m z) (append-nil bs) ∙ rk))
+        | inr s ↦ cc (s.1, append-nil bs, rk)
       ]
   new_at bs (r ∷ rows) k n (suc i) h rk hr formed below out =
       let same : (bs ++ r ∷ []) ++ take i rows ≡ bs ++ r ∷ take i rows = append_assoc bs (r ∷ []) (take i rows) in
       let out' : in_span q m ((bs ++ r ∷ []) ++ take i rows) (row rows i) ≡ false =
-      subst (λ z. in_span q m z (row rows i) ≡ false) (sym same) out in
+      rw same out in
       let go : (k' : ℕ) → Spans q m k' (bs ++ r ∷ []) → rank_of q m (bs ++ r ∷ []) ≡ k' → IsFormedTo m k' rows n
       → row rows i ≡ unit m (rank_of q m (bs ++ r ∷ take i rows)) =
-      λ k' h' rk' formed'. new_at (bs ++ r ∷ []) rows k' n i h' rk' hr.1 formed' (omega arith) out' ∙ ap
-      (λ z. unit m (rank_of q m z)) same in
+      λ k' h' rk' formed'. cc (new_at (bs ++ r ∷ []) rows k' n i h' rk' hr.1 formed' (omega arith) out', same) in
       elim formed [
         | inl s ↦
             let is = in_span-holds q m f bs r (h.all r hr.0 s.0) in
@@ -108,7 +107,7 @@ module _ (q m : ℕ) (f : IsField q) where
             let new : r ≡ unit m k = s.1 in
             let is = in_span-none q m f bs r h.vectors hr.0
             (λ i. unit-long m k s.0 (subst (IsShort k) new (spans-short q m f k bs r h i))) in
-            go (suc k) (subst (λ x. Spans q m (suc k) (bs ++ x ∷ [])) (sym new) (spans-new q m f k bs s.0 h))
+            go (suc k) (rw new (spans-new q m f k bs s.0 h))
             (rank-snoc [] bs r ∙ (rw (is, rk) (omega arith))) s.2
       ]
 
@@ -161,10 +160,13 @@ module _ (q m : ℕ) (f : IsField q) where
       elim (cases_eq (last_nonzero r) 0) [
         | inl e ↦ inl
             (let z = last-zero m r h.len e in
-            ap (scale q (normal_factor r)) z ∙ ext q m f _ _
-            (scale-vector q m f (normal_factor r) (zeros m) (zeros-vector q m f)) (zeros-vector q m f)
-            (λ p. dot-scale q f (normal_factor r) (zeros m) p ∙
-            (rw (dot-zeros q f m p) (f.mul_zero (normal_factor r)))))
+            cc (
+              z,
+              ext q m f _ _ (scale-vector q m f (normal_factor r) (zeros m) (zeros-vector q m f))
+                  (zeros-vector q m f)
+                  (λ p. dot-scale q f (normal_factor r) (zeros m) p
+                  ∙ (rw (dot-zeros q f m p) (f.mul_zero (normal_factor r)))),
+            ))
         | inr ne ↦
             let c = normal_factor-code r h.codes in
             inr (last-scale q f (normal_factor r) r c.0 c.1 h.codes ∙
@@ -191,7 +193,7 @@ module _ (q m : ℕ) (f : IsField q) where
     | inl s ↦ inl (short-scale q k (normal_factor r) f r s.0, formed-scaled k n rows s.1)
     | inr s ↦ inr (
       s.0,
-      subst (λ x. scale q (normal_factor x) x ≡ unit m k) (sym s.1) (normal-unit k s.0),
+      rw s.1 (normal-unit k s.0),
       formed-scaled (suc k) n
           rows s.2,
     )

@@ -22,9 +22,7 @@ neg-positive q f =
 -- a sum of four, regrouped
 pub add-add : (q : ℕ) (f : IsField q) (a b c d : ℕ) → add q (add q a b) (add q c d) ≡ add q (add q a c) (add q b d)
 add-add q f a b c d =
-    f.add_assoc a b (add q c d) ∙ ap (add q a)
-    (sym (f.add_assoc b c d) ∙ ap (λ x. add q x d) (f.add_comm b c) ∙ f.add_assoc c b d) ∙ sym
-    (f.add_assoc a c (add q b d))
+    cc (f.add_assoc a b (add q c d), f.add_assoc b c d, f.add_comm b c, f.add_assoc c b d, f.add_assoc a c (add q b d))
 
 pub dot_code : (q : ℕ) (f : IsField q) (v w : List ℕ) → dot q v w < q
 dot_code q f [] w = omega (arith, f.more_than_one)

@@ -1,7 +1,7 @@
 -- The nodes of a tree are the candidates through the first design.
-use Rattle.std.proofs.Common.{◌≡◌, ℕ, zero, suc, ◌-◌, ◌<◌, ◌≤◌, Bool, true, false, not, ◌&&◌, ◌||◌, cond, eqb, ltb}
+use Rattle.std.proofs.Common.{◌≡◌, ℕ, zero, suc, ◌-◌, ◌<◌, ◌≤◌, Bool, true, false, not, ◌&&◌, ◌||◌, eqb, ltb}
 use Rattle.std.proofs.Common.{List, [], ◌∷◌, ◌++◌, map, length, take, drop, Option, Some, None, refl, sym, ap, ◌∙◌, inl}
-use Rattle.std.proofs.Common.{inr, arith, subst, eq-eqb, lt-ltb, take-append-drop, map-id, length-take}
+use Rattle.std.proofs.Common.{inr, arith, eq-eqb, lt-ltb, take-append-drop, map-id, length-take}
 use Rattle.std.specs.List.{filter, list_any, find, AllByRecursion}
 use Rattle.std.proofs.lemmas.Bool.{cond-true, cond-false, cases_Bool, and_from, and_left, and_right, or_left, or_right}
 use Rattle.std.proofs.lemmas.Bool.{or_from, and_parts, or_parts, false_from_ne_true, not_from_true, not_from_false}
@@ -27,12 +27,14 @@ find-candidates : (D C : List ℕ → Bool) → ((x : List ℕ) → D x ≡ true
 find-candidates D C h [] = refl
 find-candidates D C h (x ∷ xs) =
     elim (cases_Bool (C x)) [
-      | inl a ↦ ap (find D) (cond-true (C x) (x ∷ filter C xs) _ a) ∙ ap (λ o. cond (D x) (Some x) o)
-          (find-candidates D C h xs)
+      | inl a ↦ cc (cond-true (C x) (x ∷ filter C xs) _ a, find-candidates D C h xs)
       | inr a ↦
           let out : D x ≡ false = false_from_ne_true (D x) (λ z. let w = h x z in absurd (cc (w, a))) in
-          ap (find D) (cond-false (C x) (x ∷ filter C xs) _ a) ∙ find-candidates D C h xs ∙ sym
-          (cond-false (D x) (Some x) (find D xs) out)
+          cc (
+            cond-false (C x) (x ∷ filter C xs) _ a,
+            find-candidates D C h xs,
+            cond-false (D x) (Some x) (find D xs) out,
+          )
     ]
 
 pub map_same : {Y : Type 0} (f g : List ℕ → Y) (p : List ℕ → Bool) → ((x : List ℕ) → p x ≡ true → f x ≡ g x)
@@ -40,10 +42,8 @@ pub map_same : {Y : Type 0} (f g : List ℕ → Y) (p : List ℕ → Bool) → (
 map_same f g p h [] = refl
 map_same f g p h (x ∷ xs) =
     elim (cases_Bool (p x)) [
-      | inl a ↦ ap (map f) (cond-true (p x) (x ∷ filter p xs) _ a) ∙ ap (λ y. y ∷ map f (filter p xs)) (h x a) ∙ ap
-          (λ l. g x ∷ l) (map_same f g p h xs) ∙ sym (ap (map g) (cond-true (p x) (x ∷ filter p xs) _ a))
-      | inr a ↦ ap (map f) (cond-false (p x) (x ∷ filter p xs) _ a) ∙ map_same f g p h xs ∙ sym
-          (ap (map g) (cond-false (p x) (x ∷ filter p xs) _ a))
+      | inl a ↦ cc (cond-true (p x) (x ∷ filter p xs) _ a, h x a, map_same f g p h xs)
+      | inr a ↦ cc (cond-false (p x) (x ∷ filter p xs) _ a, map_same f g p h xs)
     ]
 
 pub parent-before : (p : List ℕ) → 0 < length p → before (parent p) p ≡ true
@@ -79,15 +79,15 @@ module _ (D : List ℕ → Bool) where
           λ d e.
               let z : x ≡ d = let w = sym (cond-true (D x) (Some x) (find D xs) holds) ∙ e in cc w in
               elim (cases_Bool (before x p)) [
-                | inl a ↦ or_left _ _ (and_from _ _ holds a) ∙ sym a ∙ ap (λ l. before l p) z
-                | inr a ↦ or_from _ _ (and_right _ _ a) (none-back x xs h.0 p a) ∙ sym a ∙ ap (λ l. before l p) z
+                | inl a ↦ cc (or_left _ _ (and_from _ _ holds a), a, z)
+                | inr a ↦ cc (or_from _ _ (and_right _ _ a) (none-back x xs h.0 p a), a, z)
               ],
         )
         | inr fails ↦
             let rest = first_decides xs h.1 p in
             let skip : find D (x ∷ xs) ≡ find D xs = cond-false (D x) (Some x) (find D xs) fails in
             let same : some_before (x ∷ xs) p ≡ some_before xs p =
-            ap (λ b. (b && before x p) || some_before xs p) fails in (
+            cc fails in (
               λ e. same ∙ rest.0 (sym skip ∙ e),
               λ d e. same ∙ rest.1 d (sym skip ∙ e),
             )
@@ -105,7 +105,7 @@ module _ (D : List ℕ → Bool) where
     shift : (xs : List (List ℕ)) → AllByRecursion (λ y. f y ≡ some_before (x ∷ ws) y) xs → D x ≡ false
         → AllByRecursion (λ y. f y ≡ some_before ws y) xs
     shift [] k e = tt
-    shift (y ∷ xs) k e = (k.0 ∙ ap (λ b. (b && before x y) || some_before ws y) e, shift xs k.1 e)
+    shift (y ∷ xs) k e = (cc (k.0, e), shift xs k.1 e)
 
   module _ (C : List ℕ → Bool) (inside : (x : List ℕ) → D x ≡ true → C x ≡ true) (f : List ℕ → Bool) where
     -- those with none that passes before them are those through the first that passes
@@ -131,8 +131,11 @@ module _ (D : List ℕ → Bool) where
                 | inl a ↦ cond-true (C x && not (f x)) _ _ (here ∙ a) ∙ ap (λ l. x ∷ l) rest ∙ sym
                     (ap (through D) (cond-true (C x) (x ∷ filter C xs) (filter C xs) a) ∙ ap (λ l. x ∷ l)
                     (cond-false (D x) [] _ fails))
-                | inr a ↦ cond-false (C x && not (f x)) _ _ (here ∙ a) ∙ rest ∙ sym
-                    (ap (through D) (cond-false (C x) (x ∷ filter C xs) (filter C xs) a))
+                | inr a ↦ cc (
+                  cond-false (C x && not (f x)) _ _ (here ∙ a),
+                  rest,
+                  cond-false (C x) (x ∷ filter C xs) (filter C xs) a,
+                )
               ]
         ]
 
@@ -149,8 +152,8 @@ module _ (t : Tree) (law : IsTree t) where
           → (find (is_tree_design t) (tree_prefixes t) ≡ None → any_before p ≡ false)
           × ((d : List ℕ) → find (is_tree_design t) (tree_prefixes t) ≡ Some d → any_before p ≡ before d p)
           → is_not_after (tree_answer t) p ≡ not (any_before p)
-      go None e h = ap (λ o. is_not_after o p) e ∙ sym (ap not (h.0 e))
-      go (Some d) e h = ap (λ o. is_not_after o p) e ∙ sym (ap not (h.1 d e))
+      go None e h = cc (e, h.0 e)
+      go (Some d) e h = cc (e, h.1 d e)
 
   is_cut : (p : List ℕ) → 0 < length p → length p ≤ t.size → is_tree_node t p ≡ (is_candidate t p && not (any_before p))
   is_cut p some short =
@@ -168,9 +171,7 @@ module _ (t : Tree) (law : IsTree t) where
             lt-ltb _ _ (omega (arith, length-take (length p - 1) p)) in
             let branch : is_tree_branch t (parent p) ≡ t.allowed (parent p) =
             unit (t.allowed (parent p)) _ (and_from _ _ low (not_from_false _ up)) in
-            ap (λ b. t.canonical p && ((eqb (length (parent p)) 0 || b) && is_not_after (tree_answer t) p)) branch
-            ∙ ap (λ b. t.canonical p && b) (unit _ _ e)
-            ∙ sym (unit (is_candidate t p) _ (not_from_false _ a))
+            cc (branch, unit _ _ e, unit (is_candidate t p) _ (not_from_false _ a))
       ]
     where
       unit : (a b : Bool) → b ≡ true → (a && b) ≡ a
@@ -183,36 +184,46 @@ module _ (t : Tree) (law : IsTree t) where
       let whole : parent d ++ drop (length d - 1) d ≡ d = take-append-drop (length d - 1) d in
       let allowed : t.allowed (parent d) ≡ true =
       closed-append t.allowed law.allowed (parent d) (drop (length d - 1) d)
-      (subst (λ l. t.allowed l ≡ true) (sym whole) parts.1) in
+      (rw whole parts.1) in
       and_from _ _ parts.0 (or_right _ _ allowed)
 
   pub nodes_are : tree_nodes t ≡ through (is_tree_design t) (under t t.size [])
   unfolding tree_nodes under
   nodes_are =
-      filter_agree_each (is_tree_node t) (λ p. is_candidate t p && not (any_before p)) (tree_prefixes t)
-      (each-weaker (λ p. (0 < length p) × (length p ≤ t.size)) _ (tree_prefixes t) (λ p h. is_cut p h.0 h.1)
-      (each-both _ _ (tree_prefixes t) (nonempty t.rows t.size) (lists-short t.rows t.size)))
-      ∙ cut (is_tree_design t) (is_candidate t) design-candidate any_before (tree_prefixes t)
-      (lists-sorted t.rows t.size) (each-all _ (tree_prefixes t) (λ p. refl))
-      ∙ ap (λ l. through (is_tree_design t) (filter (is_candidate t) l)) (sym (map-id (tree_prefixes t)))
+      cc (
+        filter_agree_each (is_tree_node t) (λ p. is_candidate t p && not (any_before p)) (tree_prefixes t)
+            (each-weaker (λ p. (0 < length p) × (length p ≤ t.size)) _ (tree_prefixes t) (λ p h. is_cut p h.0 h.1)
+            (each-both _ _ (tree_prefixes t) (nonempty t.rows t.size) (lists-short t.rows t.size))),
+        cut (is_tree_design t) (is_candidate t) design-candidate any_before (tree_prefixes t) (lists-sorted t.rows t.size)
+            (each-all _ (tree_prefixes t) (λ p. refl)),
+        map-id (tree_prefixes t),
+      )
 
   pub answer_is : tree_answer t ≡ find (is_tree_design t) (under t t.size [])
   unfolding under
   answer_is =
-      sym (find-candidates (is_tree_design t) (is_candidate t) design-candidate (tree_prefixes t)) ∙ ap
-      (λ l. find (is_tree_design t) (filter (is_candidate t) l)) (sym (map-id (tree_prefixes t)))
+      cc (
+        find-candidates (is_tree_design t) (is_candidate t) design-candidate (tree_prefixes t),
+        map-id (tree_prefixes t),
+      )
 
   go : (p : List ℕ) (a : Bool) → t.allowed p ≡ a → (b : Bool) → ltb (length p) t.size ≡ b → not (any_before p) ≡ true
       → tree_mark t p ≡ mark_at t p
   go p true e true f n =
       let branch : is_tree_branch t p ≡ true = and_from _ _ e (and_from _ _ f n) in
-      cond-true (t.allowed p) _ _ e ∙ cond-true (is_tree_branch t p) _ _ branch ∙ sym
-      (cond-true (t.allowed p) _ _ e ∙ cond-true (ltb (length p) t.size) _ _ f)
+      cc (
+        cond-true (t.allowed p) _ _ e,
+        cond-true (is_tree_branch t p) _ _ branch,
+        cond-true (ltb (length p) t.size) _ _ f,
+      )
   go p true e false f n =
       let branch : is_tree_branch t p ≡ false = and_right _ _ (and_left _ _ f) in
-      cond-true (t.allowed p) _ _ e ∙ cond-false (is_tree_branch t p) _ _ branch ∙ sym
-      (cond-true (t.allowed p) _ _ e ∙ cond-false (ltb (length p) t.size) _ _ f)
-  go p false e b f n = cond-false (t.allowed p) _ _ e ∙ sym (cond-false (t.allowed p) _ _ e)
+      cc (
+        cond-true (t.allowed p) _ _ e,
+        cond-false (is_tree_branch t p) _ _ branch,
+        cond-false (ltb (length p) t.size) _ _ f,
+      )
+  go p false e b f n = cc (cond-false (t.allowed p) _ _ e)
 
   mark-same : (p : List ℕ) → is_tree_node t p ≡ true → tree_mark t p ≡ mark_at t p
   mark-same p h =

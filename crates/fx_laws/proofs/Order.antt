@@ -1,6 +1,6 @@
 -- The order of lists of rows: all lists stand in it, and the first that passes a test is found.
 use Rattle.std.proofs.Common.{◌≡◌, ℕ, zero, suc, ◌<◌, ◌≤◌, Bool, true, false, ◌&&◌, eqb, ltb, List, [], ◌∷◌, ◌++◌, map}
-use Rattle.std.proofs.Common.{length, Some, None, refl, sym, ap, ◌∙◌, ◌⊎◌, inl, inr, arith, subst, eq-eqb, lt-ltb}
+use Rattle.std.proofs.Common.{length, Some, None, refl, sym, ◌∙◌, ◌⊎◌, inl, inr, arith, subst, eq-eqb, lt-ltb}
 use Rattle.std.proofs.Common.{le-ltb, ltb-true, eqb-true}
 use Rattle.std.specs.Bool.{⊤}
 use Rattle.std.specs.List.{filter, find, flat_map, AllByRecursion}
@@ -156,7 +156,7 @@ first_is x d xs sorted (inr h) = inr (has-each (λ y. before x y ≡ true) d xs 
 
 module _ (D : List ℕ → Bool) where
   not_first : (x d : List ℕ) (xs : List (List ℕ)) → Has d (x ∷ xs) → D d ≡ true → D x ≡ false → Has d xs
-  not_first x d xs (inl e) passes fails = let z : D x ≡ true = sym (ap D e) ∙ passes in absurd (cc)
+  not_first x d xs (inl e) passes fails = let z : D x ≡ true = cc (e, passes) in absurd (cc)
   not_first x d xs (inr h) passes fails = h
 
   -- an item that passes, of all that pass in a sorted list, and the first found
@@ -183,7 +183,7 @@ module _ (D : List ℕ → Bool) where
       elim (cases_Bool (D x)) [
         | inl holds ↦
             (let s : Some x ≡ Some e = sym (cond-true (D x) (Some x) (find D xs) holds) ∙ h in let z : x ≡ e = cc in
-            subst (λ y. D y ≡ true) z holds)
+            rw z at holds)
         | inr fails ↦ found_passes xs e (sym (cond-false (D x) (Some x) (find D xs) fails) ∙ h)
       ]
 
@@ -193,7 +193,7 @@ module _ (D : List ℕ → Bool) where
   first_found xs d sorted there passes first =
       let e = found_first xs d sorted there passes in
       elim (e.3) [
-        | inl same ↦ e.1 ∙ ap (λ z. Some z) same
+        | inl same ↦ cc (e.1, same)
         | inr earlier ↦ absurd (first e.0 e.2 earlier)
       ]
 

@@ -1,6 +1,6 @@
 -- Each permutation is made of swaps of neighbours.
 use Rattle.std.proofs.Common.{ℕ, ◌≡◌, ◌<◌, zero, suc, List, [], ◌∷◌, ◌++◌, map, length, get_or, set, swap}
-use Rattle.std.proofs.Common.{IsPermutation, refl, subst, ◌∙◌, ap, arith}
+use Rattle.std.proofs.Common.{IsPermutation, refl, arith}
 use Rattle.std.proofs.lemmas.List.Sorted.{IsPermutation-keeps}
 use Rattle.fx_designs.specs.Galois.{IsField}
 use Rattle.fx_laws.specs.Reorders.{reordered, IsReorderable}
@@ -16,8 +16,7 @@ first zero x (y ∷ ys) d h = (0 ∷ [], refl)
 first (suc j) x (y ∷ ys) d h =
     let r = first j x ys d (omega arith) in (
       0 ∷ (map (λ k. suc k) r.0 ++ 0 ∷ []),
-      reordered-append (map (λ k. suc k) r.0) (0 ∷ []) (y ∷ x ∷ ys) ∙ ap (reordered (0 ∷ []))
-          (reordered-inside y r.0 (x ∷ ys) ∙ ap (λ z. y ∷ z) r.1),
+      cc (reordered-append (map (λ k. suc k) r.0) (0 ∷ []) (y ∷ x ∷ ys), reordered-inside y r.0 (x ∷ ys), r.1),
     )
 
 exchange : {X : Type 0} (i j : ℕ) (l : List X) (d : X) → i < length l → j < length l
@@ -28,7 +27,7 @@ exchange zero (suc j) (x ∷ xs) d h k = first j x xs d (omega arith)
 exchange (suc i) zero (x ∷ xs) d h k = first i x xs d (omega arith)
 exchange (suc i) (suc j) (x ∷ xs) d h k =
     let r = exchange i j xs d (omega arith) (omega arith) in
-    (map (λ k. suc k) r.0, reordered-inside x r.0 xs ∙ ap (λ z. x ∷ z) r.1)
+    (map (λ k. suc k) r.0, cc (reordered-inside x r.0 xs, r.1))
 
 swapped_by : {X : Type 0} (l : List X) (i j : ℕ) → i < length l → j < length l
     → (ks : List ℕ) × (reordered ks l ≡ swap l i j)
@@ -38,7 +37,7 @@ swapped_by (x ∷ xs) i j h k = exchange i j (x ∷ xs) x h k
 pub by_neighbours : {X : Type 0} (xs ys : List X) → IsPermutation xs ys → (ks : List ℕ) × (reordered ks xs ≡ ys)
 by_neighbours xs ys h = IsPermutation-keeps xs (λ l. (ks : List ℕ) × (reordered ks xs ≡ l)) ([], refl)
     (λ l i j hi hj at.
-    (let r = swapped_by l i j hi hj in (at.0 ++ r.0, reordered-append at.0 r.0 xs ∙ ap (reordered r.0) at.1 ∙ r.1)))
+    (let r = swapped_by l i j hi hj in (at.0 ++ r.0, cc (reordered-append at.0 r.0 xs, at.1, r.1))))
     ys h
 
 -- and so does each other order of the factors, in std's words
@@ -47,4 +46,4 @@ pub permutation_follows : (q m : ℕ) (f : IsField q) (Forbidden : List ℕ → 
     → Follows q m Forbidden xs ys zs ys
 permutation_follows q m f Forbidden xs zs ys free hx hy h =
     let r = by_neighbours xs zs h in
-    subst (λ z. Follows q m Forbidden xs ys z ys) r.1 (reorder_follows q m f Forbidden r.0 xs ys free hx hy)
+    rw r.1 at (reorder_follows q m f Forbidden r.0 xs ys free hx hy)

@@ -1,6 +1,6 @@
 -- What the rows of a canonical prefix span: the vectors whose number is below q to their rank.
 use Rattle.std.proofs.Common.{ℕ, ◌≡◌, ◌<◌, ◌≤◌, ◌+◌, ◌*◌, ◌^◌, zero, suc, ltb, List, [], ◌∷◌, ◌++◌, length, take, refl}
-use Rattle.std.proofs.Common.{sym, subst, ◌∙◌, ap, arith, inl, inr, take-suc}
+use Rattle.std.proofs.Common.{sym, subst, ◌∙◌, arith, inl, inr, take-suc}
 use Rattle.std.specs.List.{AllByRecursion}
 use Rattle.std.proofs.lemmas.Bool.{cases_lt, cases_Bool, lt-ltb, le-ltb}
 use Rattle.std.proofs.Math.Nat.{pow-zero, pow-succ', mul-le-mul_left, one-le-pow, lt_of_mul-lt-mul_left}
@@ -20,7 +20,7 @@ use Rattle.fx_laws.proofs.Forms.{rank-snoc}
 pub unit-past : (m k : ℕ) → m ≤ k → unit m k ≡ zeros m
 unit-past zero k h = refl
 unit-past (suc m) zero h = absurd (omega arith)
-unit-past (suc m) (suc k) h = ap (λ v. 0 ∷ v) (unit-past m k (omega arith))
+unit-past (suc m) (suc k) h = cc (unit-past m k (omega arith))
 
 each-row : (P : List ℕ → Type 0) (rows : List (List ℕ)) (k : ℕ) → k < length rows → AllByRecursion P rows
     → P (row rows k)
@@ -41,7 +41,7 @@ module _ (q m s : ℕ) (f : IsField q) (rows : List (List ℕ)) (hr : AreVectors
       let hv : IsVector q m r = each-row (λ r. IsVector q m r) rows k (omega arith) hr in
       let next : take (suc k) rows ≡ bs ++ r ∷ [] = take-suc rows k [] (omega arith) in
       let up = rank-snoc q m f [] bs r in
-      subst (λ z. Spans q m (rank_of q m z) z) (sym next) (elim (cases_Bool (in_span q m bs r)) [
+      rw next (elim (cases_Bool (in_span q m bs r)) [
         | inl old ↦
             let same : rank_of q m (bs ++ r ∷ []) ≡ n = up ∙ (rw old (omega arith)) in
             subst (λ z. Spans q m z (bs ++ r ∷ [])) (sym same)
@@ -122,4 +122,4 @@ number-unit q (suc m) zero h = rw (number-zeros q m, pow-zero q) (omega arith)
 number-unit q (suc m) (suc k) h = rw (number-unit q m k (omega arith), pow-succ' q k) (omega arith)
 
 pub digits-unit : (q m k : ℕ) (f : IsField q) → k < m → digits q m (q ^ k) ≡ unit m k
-digits-unit q m k f h = ap (digits q m) (sym (number-unit q m k h)) ∙ digits-number q m (unit m k) (unit-vector q m k f)
+digits-unit q m k f h = cc (number-unit q m k h, digits-number q m (unit m k) (unit-vector q m k f))

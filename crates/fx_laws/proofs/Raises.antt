@@ -1,6 +1,6 @@
 -- A vector outside the span, added to a dependent factor row, raises the rank and makes no new zero sum that counts.
 use Rattle.std.proofs.Common.{ℕ, ◌≡◌, ◌<◌, ◌≤◌, ◌+◌, Bool, true, false, cond, eqb, ◌&&◌, List, [], ◌∷◌, ◌++◌, length}
-use Rattle.std.proofs.Common.{refl, sym, subst, ◌∙◌, ap, ap₂, arith, inl, inr}
+use Rattle.std.proofs.Common.{refl, sym, subst, ◌∙◌, ap, arith, inl, inr}
 use Rattle.std.specs.List.{AllByRecursion, sum_by}
 use Rattle.std.proofs.lemmas.List.Sums.{sum_by-cons}
 use Rattle.std.proofs.lemmas.List.Elements.{recursion_from_All}
@@ -27,26 +27,34 @@ module _ (q m : ℕ) (f : IsField q) where
   zero-combination p [] rows h = dot-zeros q f m p
   zero-combination p (a ∷ u) [] h = dot-zeros q f m p
   zero-combination p (a ∷ u) (r ∷ rows) h =
-      dot-plus q f (scale q a r) (combination q m u rows) p
-      ∙ ap₂ (add q) (dot-scale q f a r p ∙ ap (mul q a) h.0 ∙ f.mul_zero a) (zero-combination p u rows h.1) ∙ f.add_zero
-      0 (omega (arith, f.more_than_one))
+      cc (
+        dot-plus q f (scale q a r) (combination q m u rows) p,
+        dot-scale q f a r p,
+        h.0,
+        f.mul_zero a,
+        zero-combination p u rows h.1,
+        f.add_zero 0 (omega (arith, f.more_than_one)),
+      )
 
   pub none-combination : (n : ℕ) (rows : List (List ℕ)) → AreVectors q m rows → combination q m (zeros n) rows ≡ zeros m
   none-combination n rows h = ext q m f _ _ (combination-vector q m f (zeros n) rows h) (zeros-vector q m f)
-      (λ p. sym (dot-levels q f m (zeros n) rows p) ∙ dot-zeros q f n (levels_at q rows p) ∙ sym (dot-zeros q f m p))
+      (λ p. cc (dot-levels q f m (zeros n) rows p, dot-zeros q f n (levels_at q rows p), dot-zeros q f m p))
 
   pub plus-combination : (u v : List ℕ) (rows : List (List ℕ)) (p : List ℕ)
       → dot q (combination q m (plus q u v) rows) p
       ≡ add q (dot q (combination q m u rows) p) (dot q (combination q m v rows) p)
   plus-combination u v rows p =
-      sym (dot-levels q f m (plus q u v) rows p) ∙ dot-plus q f u v (levels_at q rows p) ∙ ap₂ (add q)
-      (dot-levels q f m u rows p) (dot-levels q f m v rows p)
+      cc (
+        dot-levels q f m (plus q u v) rows p,
+        dot-plus q f u v (levels_at q rows p),
+        dot-levels q f m u rows p,
+        dot-levels q f m v rows p,
+      )
 
   pub scale-combination : (c : ℕ) (u : List ℕ) (rows : List (List ℕ)) (p : List ℕ)
       → dot q (combination q m (scale q c u) rows) p ≡ mul q c (dot q (combination q m u rows) p)
   scale-combination c u rows p =
-      sym (dot-levels q f m (scale q c u) rows p) ∙ dot-scale q f c u (levels_at q rows p) ∙ ap (mul q c)
-      (dot-levels q f m u rows p)
+      cc (dot-levels q f m (scale q c u) rows p, dot-scale q f c u (levels_at q rows p), dot-levels q f m u rows p)
 
   module _ (w : List ℕ) where
     -- a sum over the new rows is the old sum and c times w
@@ -64,28 +72,32 @@ module _ (q m : ℕ) (f : IsField q) where
                 rest.0,
                 rest.1,
                 λ p.
-                    dot-plus q f (scale q a y) (combination q m u ys) p
-                    ∙ ap₂ (add q) (ap (λ r. dot q (scale q a r) p) (sym s.0)) (rest.2 p)
-                    ∙ sym (f.add_assoc (dot q (scale q a x) p) (dot q (combination q m u xs) p)
-                    (mul q rest.0 (dot q w p)))
-                    ∙ ap (λ z. add q z (mul q rest.0 (dot q w p)))
-                    (sym (dot-plus q f (scale q a x) (combination q m u xs) p)),
+                    cc (
+                      dot-plus q f (scale q a y) (combination q m u ys) p,
+                      s.0,
+                      rest.2 p,
+                      f.add_assoc (dot q (scale q a x) p) (dot q (combination q m u xs) p) (mul q rest.0 (dot q w p)),
+                      dot-plus q f (scale q a x) (combination q m u xs) p,
+                    ),
               )
           | inr s ↦ (
             a,
             hu.codes.0,
             λ p.
                 let t : ℕ = dot q (combination q m u xs) p in
-                dot-plus q f (scale q a y) (combination q m u ys) p
-                ∙ ap₂ (add q)
-                (dot-scale q f a y p ∙ ap (λ r. mul q a (dot q r p)) s.0 ∙ ap (mul q a) (dot-plus q f x w p) ∙
-                f.distributes a (dot q x p) (dot q w p))
-                (ap (λ r. dot q (combination q m u r) p) (sym s.1))
-                ∙ f.add_assoc (mul q a (dot q x p)) (mul q a (dot q w p)) t ∙ ap (add q (mul q a (dot q x p)))
-                (f.add_comm (mul q a (dot q w p)) t) ∙ sym (f.add_assoc (mul q a (dot q x p)) t (mul q a (dot q w p)))
-                ∙ ap (λ z. add q z (mul q a (dot q w p)))
-                (sym (dot-plus q f (scale q a x) (combination q m u xs) p ∙ ap (λ z. add q z t)
-                (dot-scale q f a x p))),
+                cc (
+                  dot-plus q f (scale q a y) (combination q m u ys) p,
+                  dot-scale q f a y p,
+                  s.0,
+                  dot-plus q f x w p,
+                  f.distributes a (dot q x p) (dot q w p),
+                  s.1,
+                  f.add_assoc (mul q a (dot q x p)) (mul q a (dot q w p)) t,
+                  f.add_comm (mul q a (dot q w p)) t,
+                  f.add_assoc (mul q a (dot q x p)) t (mul q a (dot q w p)),
+                  dot-plus q f (scale q a x) (combination q m u xs) p,
+                  dot-scale q f a x p,
+                ),
           )
         ]
 
@@ -112,7 +124,7 @@ module _ (q m : ℕ) (f : IsField q) where
     raised-snoc [] ys r h = absurd h
     raised-snoc (x ∷ xs) [] r h = absurd h
     raised-snoc (x ∷ xs) (y ∷ ys) r h =
-        elim h [ inl s ↦ inl (s.0, raised-snoc xs ys r s.1) | inr s ↦ inr (s.0, ap (λ z. z ++ r ∷ []) s.1) ]
+        elim h [ inl s ↦ inl (s.0, raised-snoc xs ys r s.1) | inr s ↦ inr (s.0, cc s.1) ]
 
     raised-end : (bs : List (List ℕ)) (x : List ℕ) → RaisedBy q w (bs ++ x ∷ []) (bs ++ plus q x w ∷ [])
     raised-end [] x = inr (refl, refl)
@@ -135,8 +147,7 @@ module _ (q m : ℕ) (f : IsField q) where
       unraised : (c : ℕ) (v v' : List ℕ) → IsVector q m v → IsVector q m v' → c ≡ 0
           → ((p : List ℕ) → dot q v' p ≡ add q (dot q v p) (mul q c (dot q w p))) → v' ≡ v
       unraised c v v' hv hv' none e = ext q m f v' v hv' hv
-          (λ p. e p ∙ ap (add q (dot q v p)) (ap (λ z. mul q z (dot q w p)) none ∙ zero-mul q f (dot q w p)) ∙
-          f.add_zero (dot q v p) (dot_code q f v p))
+          (λ p. cc (e p, none, zero-mul q f (dot q w p), f.add_zero (dot q v p) (dot_code q f v p)))
 
       less_new : (b c : Bool) → (b ≡ true → c ≡ true) → cond c 0 1 ≤ cond b 0 1
       less_new true c h = (let e = h refl in rw e (omega arith))
@@ -151,10 +162,10 @@ module _ (q m : ℕ) (f : IsField q) where
           let hb' = raised-vectors hw bs bs' h hb in
           let old : in_span q m bs' r ≡ true → in_span q m bs r ≡ true = λ e.
           let s = in_span-true q m f bs' r hb' hr.0 e in
-          let hu : IsVector q (length bs) s.by = subst (λ n. IsVector q n s.by) (raised-length bs bs' h) s.vector in
+          let hu : IsVector q (length bs) s.by = rw (raised-length bs bs' h) at s.vector in
           let sum = raised-sum bs bs' s.by h hu in
           let is : (p : List ℕ) → dot q r p ≡ add q (dot q (combination q m s.by bs) p) (mul q sum.0 (dot q w p)) =
-          λ p. ap (λ v. dot q v p) (sym s.gives) ∙ sum.2 p in
+          λ p. cc (s.gives, sum.2 p) in
           let none : sum.0 ≡ 0 =
           no_factor sum.0 (combination q m s.by bs) r sum.1 (zero-combination p0 s.by bs zb) zr.0 (is p0) in
           in_span-holds q m f bs r
@@ -195,8 +206,8 @@ module _ (q m : ℕ) (f : IsField q) where
                 ≡ 1 = sym (ap (λ v. dot q v p0) (sym i.gives) ∙ zero-combination p0 i.by bs zb) ∙ at_y in
                 omega arith)) in
                 let later : rank_after q m (bs ++ x ∷ []) xs ≤ rank_after q m (bs ++ y ∷ []) ys =
-                subst (λ z. rank_after q m (bs ++ x ∷ []) xs ≤ rank_after q m (bs ++ z ∷ []) ys) (sym s.1)
-                (subst (λ z. rank_after q m (bs ++ x ∷ []) xs ≤ rank_after q m (bs ++ plus q x w ∷ []) z) s.2
+                rw (← s.1) at (subst (λ z. rank_after q m (bs ++ x ∷ []) xs ≤ rank_after q m (bs ++ plus q x w ∷ []) z)
+                s.2
                 (rank-later (bs ++ x ∷ []) (bs ++ plus q x w ∷ []) xs (raised-end bs x) hb' hx.1 zb' zx.1)) in
                 rw (was, now) (omega (arith, later))
           ]
@@ -210,7 +221,7 @@ module _ (q m : ℕ) (f : IsField q) where
             let sum = raised-sum xs ys u h hu in
             let none =
             no_factor sum.0 (combination q m u xs) (combination q m u ys) sum.1 (zero-combination p0 u xs zx)
-            (ap (λ v. dot q v p0) e ∙ dot-zeros q f m p0) (sum.2 p0) in
+            (cc (e, dot-zeros q f m p0)) (sum.2 p0) in
             sym (unraised sum.0 (combination q m u xs) (combination q m u ys) (combination-vector q m f u xs hx)
             (combination-vector q m f u ys (raised-vectors hw xs ys h hx)) none sum.2) ∙ e
 
@@ -220,23 +231,21 @@ module _ (q m : ℕ) (f : IsField q) where
             → IsAllowed q m Forbidden ys blocks
         allowed_by_block Forbidden blind hb s ok = record {
           none = λ u b hu' hbv bad e.
-              let hu : IsVector q (length xs) u = subst (λ n. IsVector q n u) (raised-length xs ys h) hu' in
+              let hu : IsVector q (length xs) u = rw (raised-length xs ys h) at hu' in
               let hy = raised-vectors hw xs ys h hx in
               let sum = raised-sum xs ys u h hu in
               let same_old : combination q m u ys ≡ combination q m u xs → ⊥ =
-              λ same. ok.none u b hu hbv bad (ap (λ v. plus q v (combination q m b blocks)) (sym same) ∙ e) in
+              λ same. ok.none u b hu hbv bad (cc (same, e)) in
               elim (blind u b bad) [
                 | inl no_b ↦
                     let b_none : combination q m b blocks ≡ zeros m =
-                    ap (λ v. combination q m v blocks) no_b ∙ none-combination (length blocks) blocks hb in
+                    cc (no_b, none-combination (length blocks) blocks hb) in
                     let word : combination q m u ys ≡ zeros m =
-                    sym (ap (plus q (combination q m u ys)) b_none ∙ plus-zero q m f (combination q m u ys)
-                    (combination-vector q m f u ys hy)) ∙ e in
+                    cc (b_none, plus-zero q m f (combination q m u ys) (combination-vector q m f u ys hy), e) in
                     same_old (word ∙ sym (words_old u hu word))
                 | inr more ↦ elim more [
                   | inl no_u ↦
-                      same_old (ap (λ v. combination q m v ys) no_u ∙ none-combination (length xs) ys hy ∙ sym
-                      (ap (λ v. combination q m v xs) no_u ∙ none-combination (length xs) xs hx))
+                      same_old (cc (no_u, none-combination (length xs) ys hy, none-combination (length xs) xs hx))
                   | inr all ↦
                       let c : ℕ = sum.0 in
                       let b' : List ℕ = plus q b (scale q c s.by) in
@@ -252,14 +261,22 @@ module _ (q m : ℕ) (f : IsField q) where
                       let y : ℕ = dot q (combination q m b blocks) p in
                       let z : ℕ = mul q c (dot q w p) in
                       let new : add q (add q x z) y ≡ 0 =
-                      ap (λ t. add q t y) (sym (sum.2 p)) ∙ sym
-                      (dot-plus q f (combination q m u ys) (combination q m b blocks) p) ∙ ap (λ v. dot q v p) e ∙
-                      dot-zeros q f m p in
-                      dot-plus q f (combination q m u xs) (combination q m b' blocks) p
-                      ∙ ap (add q x)
-                      (plus-combination b (scale q c s.by) blocks p ∙ ap (add q y)
-                      (scale-combination c s.by blocks p ∙ ap (λ v. mul q c (dot q v p)) s.gives) ∙ f.add_comm y z)
-                      ∙ sym (f.add_assoc x z y) ∙ new ∙ sym (dot-zeros q f m p)))
+                      cc (
+                        sum.2 p,
+                        dot-plus q f (combination q m u ys) (combination q m b blocks) p,
+                        e,
+                        dot-zeros q f m p,
+                      ) in
+                      cc (
+                        dot-plus q f (combination q m u xs) (combination q m b' blocks) p,
+                        plus-combination b (scale q c s.by) blocks p,
+                        scale-combination c s.by blocks p,
+                        s.gives,
+                        f.add_comm y z,
+                        f.add_assoc x z y,
+                        new,
+                        dot-zeros q f m p,
+                      )))
                 ]
               ];
         }
@@ -269,20 +286,23 @@ module _ (q m : ℕ) (f : IsField q) where
             → IsAllowed q m Forbidden xs blocks → IsAllowed q m Forbidden ys blocks
         allowed_by_other Forbidden zb ok = record {
           none = λ u b hu' hbv bad e.
-              let hu : IsVector q (length xs) u = subst (λ n. IsVector q n u) (raised-length xs ys h) hu' in
+              let hu : IsVector q (length xs) u = rw (raised-length xs ys h) at hu' in
               let sum = raised-sum xs ys u h hu in
               let at_new : dot q (combination q m u ys) p0 ≡ 0 =
-              sym (ap (add q (dot q (combination q m u ys) p0)) (zero-combination p0 b blocks zb) ∙ f.add_zero _
-              (dot_code q f (combination q m u ys) p0))
-              ∙ sym (dot-plus q f (combination q m u ys) (combination q m b blocks) p0) ∙ ap (λ v. dot q v p0) e ∙
-              dot-zeros q f m p0 in
+              cc (
+                zero-combination p0 b blocks zb,
+                f.add_zero _ (dot_code q f (combination q m u ys) p0),
+                dot-plus q f (combination q m u ys) (combination q m b blocks) p0,
+                e,
+                dot-zeros q f m p0,
+              ) in
               let none =
               no_factor sum.0 (combination q m u xs) (combination q m u ys) sum.1 (zero-combination p0 u xs zx)
               at_new (sum.2 p0) in
               let same =
               unraised sum.0 (combination q m u xs) (combination q m u ys) (combination-vector q m f u xs hx)
               (combination-vector q m f u ys (raised-vectors hw xs ys h hx)) none sum.2 in
-              ok.none u b hu hbv bad (ap (λ v. plus q v (combination q m b blocks)) (sym same) ∙ e);
+              ok.none u b hu hbv bad (cc (same, e));
         }
 
 pub sum_by-le : {X : Type 0} (g h : X → ℕ) (xs : List X) → AllByRecursion (λ x. g x ≤ h x) xs
@@ -325,6 +345,6 @@ fewer_words q m f xs ys k hx hy len old =
     let none : combination q m u ys ≡ zeros m =
     number-same q m f _ _ (combination-vector q m f u ys hy) (zeros-vector q m f)
     (eqb-true _ _ e ∙ sym (number-zeros q m)) in
-    eq-eqb _ _ (ap (number q) (old u hu none) ∙ number-zeros q m) in
+    eq-eqb _ _ (cc (old u hu none, number-zeros q m)) in
     implied (eqb (number q (combination q m u ys)) 0) (eqb (number q (combination q m u xs)) 0) (eqb (weight u) k)
     zero_is))))

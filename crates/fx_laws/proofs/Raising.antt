@@ -1,8 +1,8 @@
 -- A vector added to a dependent factor row, in the words of spans.
-use Rattle.std.proofs.Common.{ℕ, ◌≡◌, ◌≤◌, ◌+◌, List, [], ◌∷◌, length, sym, ◌∙◌, ap, inl, inr, ◌⊎◌}
+use Rattle.std.proofs.Common.{ℕ, ◌≡◌, ◌≤◌, ◌+◌, List, [], ◌∷◌, length, inl, inr, ◌⊎◌}
 use Rattle.std.specs.List.{AllByRecursion}
 use Rattle.fx_designs.specs.Galois.{IsField}
-use Rattle.fx_designs.specs.Vectors.{dot, IsVector, zeros}
+use Rattle.fx_designs.specs.Vectors.{IsVector, zeros}
 use Rattle.fx_designs.specs.Runs.{levels_at}
 use Rattle.fx_laws.specs.Spans.{InSpan}
 use Rattle.fx_designs.specs.Spans.{rank_of}
@@ -21,7 +21,7 @@ module _ (q m : ℕ) (f : IsField q) where
       → ZeroAt q m f p ys
   spanned_zero p xs [] z h = tt
   spanned_zero p xs (y ∷ ys) z h =
-      (ap (λ v. dot q v p) (sym h.0.gives) ∙ zero-combination q m f p h.0.by xs z, spanned_zero p xs ys z h.1)
+      (cc (h.0.gives, zero-combination q m f p h.0.by xs z), spanned_zero p xs ys z h.1)
 
   -- w outside the span of the factor rows; it is a combination of the block rows, or these are in the span of the
   -- factor rows

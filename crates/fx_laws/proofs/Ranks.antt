@@ -1,11 +1,11 @@
 -- Spans and ranks.
-use Rattle.std.proofs.Common.{ℕ, ◌≡◌, ◌<◌, ◌+◌, zero, suc, Bool, true, false, cond, eqb, ◌||◌, List, [], ◌∷◌, ◌++◌, map}
+use Rattle.std.proofs.Common.{ℕ, ◌≡◌, ◌<◌, ◌+◌, zero, suc, Bool, true, false, eqb, ◌||◌, List, [], ◌∷◌, ◌++◌, map}
 use Rattle.std.proofs.Common.{length, length-append, refl, sym, subst, ◌∙◌, ap, ap₂, arith, inl, inr}
 use Rattle.std.specs.List.{AllByRecursion, list_any}
 use Rattle.std.proofs.lemmas.Bool.{eq-eqb, eqb-true}
 use Rattle.std.proofs.lemmas.List.Folds.{list_any_at}
 use Rattle.std.proofs.lemmas.List.Elements.{recursion_from_All}
-use Rattle.fx_designs.specs.Galois.{add, mul, neg, IsField, number, digits}
+use Rattle.fx_designs.specs.Galois.{add, mul, neg, IsField, number}
 use Rattle.fx_designs.specs.Vectors.{dot, plus, scale, zeros, combination, IsVector}
 use Rattle.fx_designs.specs.Runs.{points}
 use Rattle.fx_laws.specs.Spans.{InSpan}
@@ -50,14 +50,16 @@ module _ (q m : ℕ) (f : IsField q) where
   combination-append [] v (x ∷ xs) ys e hy = absurd (omega arith)
   combination-append (a ∷ u) v [] ys e hy = absurd (omega arith)
   combination-append (a ∷ u) v (x ∷ xs) ys e hy =
-      ap (plus q (scale q a x)) (combination-append u v xs ys (omega arith) hy) ∙ sym
-      (plus-assoc q f (scale q a x) (combination q m u xs) (combination q m v ys))
+      cc (
+        combination-append u v xs ys (omega arith) hy,
+        plus-assoc q f (scale q a x) (combination q m u xs) (combination q m v ys),
+      )
 
   pub span-snoc : (bs : List (List ℕ)) (r v w : List ℕ) (c : ℕ) → c < q → IsVector q m r → InSpan q m bs v
       → w ≡ plus q v (scale q c r) → InSpan q m (bs ++ r ∷ []) w
   span-snoc bs r v w c hc hr s e = record {
     by = s.by ++ c ∷ [];
-    vector = subst (λ n. IsVector q n (s.by ++ c ∷ [])) (sym (length-append bs (r ∷ [])))
+    vector = rw (length-append bs (r ∷ []))
         (append-vector q (length bs) 1 s.by (c ∷ []) s.vector (record { len = refl; codes = (hc, tt) }));
     gives = combination-append s.by (c ∷ []) bs (r ∷ []) s.vector.len (hr, tt)
         ∙ ap₂ (plus q) s.gives (plus-zero q m f (scale q c r) (scale-vector q m f c r hr)) ∙ sym e;
@@ -73,7 +75,7 @@ module _ (q m : ℕ) (f : IsField q) where
       go (p x) refl e
 
   pub number-same : (v w : List ℕ) → IsVector q m v → IsVector q m w → number q v ≡ number q w → v ≡ w
-  number-same v w hv hw e = sym (digits-number q m v hv) ∙ ap (digits q m) e ∙ digits-number q m w hw
+  number-same v w hv hw e = cc (digits-number q m v hv, e, digits-number q m w hw)
 
   pub in_span-true : (rows : List (List ℕ)) (v : List ℕ) → AreVectors q m rows → IsVector q m v
       → in_span q m rows v ≡ true → InSpan q m rows v
@@ -128,7 +130,7 @@ short-scale q (suc k) c f [] h = tt
 short-scale q zero c f (a ∷ v) h = (rw h.0 (f.mul_zero c), short-scale q zero c f v h.1)
 short-scale q (suc k) c f (a ∷ v) h = short-scale q k c f v h
 
-short-combination : (q m k : ℕ) (f : IsField q) (u : List ℕ) (bs : List (List ℕ)) → AllByRecursion (λ r. IsShort k r) bs
+pub short-combination : (q m k : ℕ) (f : IsField q) (u : List ℕ) (bs : List (List ℕ)) → AllByRecursion (λ r. IsShort k r) bs
     → IsShort k (combination q m u bs)
 short-combination q m k f [] bs h = zeros-short m k
 short-combination q m k f (a ∷ u) [] h = zeros-short m k
@@ -199,7 +201,7 @@ module _ (q m : ℕ) (f : IsField q) where
     vectors = each-append (λ r. IsVector q m r) bs (r ∷ []) h.vectors (hr, tt);
     short = each-append (λ r. IsShort k r) bs (r ∷ []) h.short (s, tt);
     all = λ v hv sv. span-snoc q m f bs r v v 0 (omega (arith, f.more_than_one)) hr (h.all v hv sv)
-        (sym (ap (plus q v) (scale-none q m f r hr) ∙ plus-zero q m f v hv));
+        (sym (cc (scale-none q m f r hr, plus-zero q m f v hv)));
   }
 
   more-short : (k : ℕ) (bs : List (List ℕ)) → AllByRecursion (λ r. IsShort k r) bs
@@ -231,7 +233,7 @@ module _ (q m : ℕ) (f : IsField q) where
         | inr s ↦
             let new : r ≡ unit m k = s.1 in
             let hs : Spans q m (suc k) (bs ++ r ∷ []) =
-            subst (λ x. Spans q m (suc k) (bs ++ x ∷ [])) (sym new) (spans-new k bs s.0 h) in
+            rw new (spans-new k bs s.0 h) in
             let rest = rank-formed (suc k) n (bs ++ r ∷ []) rows hr.1 hs s.2 in
             let is = in_span-none q m f bs r h.vectors hr.0
             (λ i. unit-long m k s.0 (subst (IsShort k) new (spans-short k bs r h i))) in
@@ -245,19 +247,26 @@ module _ (q m : ℕ) (f : IsField q) where
       let hw' = scale-vector q m f (neg q 1) w hw in
       let none : (x : List ℕ) → IsVector q m x → plus q x (scale q (neg q 1) x) ≡ zeros m =
       λ x hx. ext q m f _ _ (plus-vector q m f x _ hx (scale-vector q m f (neg q 1) x hx)) (zeros-vector q m f)
-      (λ p. dot-plus q f x (scale q (neg q 1) x) p ∙ ap (add q (dot q x p)) (dot-scale q f (neg q 1) x p)
-      ∙ ap (λ z. add q z (mul q (neg q 1) (dot q x p))) (sym (one-mul q f (dot q x p) (dot_code q f x p))) ∙ sym
-      (add-mul q f 1 (neg q 1) (dot q x p)) ∙ ap (λ z. mul q z (dot q x p)) (f.add_neg 1) ∙ zero-mul q f (dot q x p) ∙
-      sym (dot-zeros q f m p)) in
+      (λ p. cc (
+        dot-plus q f x (scale q (neg q 1) x) p,
+        dot-scale q f (neg q 1) x p,
+        one-mul q f (dot q x p) (dot_code q f x p),
+        add-mul q f 1 (neg q 1) (dot q x p),
+        f.add_neg 1,
+        zero-mul q f (dot q x p),
+        dot-zeros q f m p,
+      )) in
       let moved : a (plus q v w') ≡ zeros m =
       h.sums v w' hv hw' ∙ ap₂ (plus q) e (h.multiples (neg q 1) w hw) ∙ none (a w) (h.vector w hw) in
       let gone : plus q v w' ≡ zeros m = h.zero_alone (plus q v w') (plus-vector q m f v w' hv hw') moved in
       ext q m f v w hv hw (λ p.
       let one : add q (dot q v p) (mul q (neg q 1) (dot q w p)) ≡ 0 =
-      sym (ap (add q (dot q v p)) (dot-scale q f (neg q 1) w p)) ∙ sym (dot-plus q f v w' p) ∙ ap (λ x. dot q x p)
-      gone ∙ dot-zeros q f m p in
-      sym (add-over q f (dot q w p) (dot q v p) (dot_code q f w p) (dot_code q f v p)) ∙ ap (add q (dot q w p)) one ∙
-      f.add_zero (dot q w p) (dot_code q f w p))
+      cc (dot-scale q f (neg q 1) w p, dot-plus q f v w' p, gone, dot-zeros q f m p) in
+      cc (
+        add-over q f (dot q w p) (dot q v p) (dot_code q f w p) (dot_code q f v p),
+        one,
+        f.add_zero (dot q w p) (dot_code q f w p),
+      ))
 
   pub map-vectors : (a : List ℕ → List ℕ) → IsChange q m a → (bs : List (List ℕ)) → AreVectors q m bs
       → AreVectors q m (map a bs)
@@ -271,14 +280,14 @@ module _ (q m : ℕ) (f : IsField q) where
       (λ e. (let s = in_span-true q m f (map a bs) (a r) (map-vectors a h bs hb) (h.vector r hr) e in
       in_span-holds q m f bs r (record {
         by = s.by;
-        vector = subst (λ n. IsVector q n s.by) (length-map bs a) s.vector;
+        vector = rw (length-map bs a) at s.vector;
         gives = change-injective a h _ r (combination-vector q m f s.by bs hb) hr
             (sym (change-combination q m f a h s.by bs hb) ∙ s.gives);
       })))
       (λ e. (let s = in_span-true q m f bs r hb hr e in
       in_span-holds q m f (map a bs) (a r) (record {
         by = s.by;
-        vector = subst (λ n. IsVector q n s.by) (sym (length-map bs a)) s.vector;
+        vector = rw (length-map bs a) s.vector;
         gives = change-combination q m f a h s.by bs hb ∙ ap a s.gives;
       })))
 
@@ -287,6 +296,8 @@ module _ (q m : ℕ) (f : IsField q) where
       → AreVectors q m rows → rank_after q m (map a bs) (map a rows) ≡ rank_after q m bs rows
   rank-change a h bs [] hb hr = refl
   rank-change a h bs (r ∷ rows) hb hr =
-      ap₂ (λ (x y : ℕ). x + y) (ap (λ b. cond b 0 1) (in_span-change a h bs r hb hr.0))
-      (ap (λ x. rank_after q m x (map a rows)) (sym (map_push a bs r)) ∙ rank-change a h (bs ++ r ∷ []) rows
-      (each-append (λ r. IsVector q m r) bs (r ∷ []) hb (hr.0, tt)) hr.1)
+      cc (
+        in_span-change a h bs r hb hr.0,
+        map_push a bs r,
+        rank-change a h (bs ++ r ∷ []) rows (each-append (λ r. IsVector q m r) bs (r ∷ []) hb (hr.0, tt)) hr.1,
+      )

@@ -51,9 +51,11 @@ module _ (q m : ℕ) (f : IsField q) where
   swapped-combination zero [] [] e = refl
   swapped-combination zero (a ∷ []) (x ∷ []) e = refl
   swapped-combination zero (a ∷ b ∷ u) (x ∷ y ∷ rows) e =
-      sym (plus-assoc q f (scale q a y) (scale q b x) (combination q m u rows)) ∙ ap
-      (λ v. plus q v (combination q m u rows)) (plus-comm q f (scale q a y) (scale q b x)) ∙ plus-assoc q f
-      (scale q b x) (scale q a y) (combination q m u rows)
+      cc (
+        plus-assoc q f (scale q a y) (scale q b x) (combination q m u rows),
+        plus-comm q f (scale q a y) (scale q b x),
+        plus-assoc q f (scale q b x) (scale q a y) (combination q m u rows),
+      )
   swapped-combination (suc k) [] [] e = refl
   swapped-combination (suc k) (a ∷ u) (x ∷ rows) e =
       ap (plus q (scale q a x)) (swapped-combination k u rows (omega arith))
@@ -72,17 +74,19 @@ module _ (q m : ℕ) (f : IsField q) where
   swapped-weight (suc k) [] = refl
   swapped-weight (suc k) (a ∷ u) =
       let c : ℕ → ℕ = λ c. cond (nat_lt 0 c) 1 0 in
-      sum_by-cons c a (swapped k u) ∙ ap (λ n. c a + n) (swapped-weight k u) ∙ sym (sum_by-cons c a u)
+      cc (sum_by-cons c a (swapped k u), swapped-weight k u, sum_by-cons c a u)
 
   pub points-swapped : (k n : ℕ) (g : List ℕ → ℕ) → sum_by (λ p. g (swapped k p)) (points q n) ≡ sum_by g (points q n)
   points-swapped zero zero g = refl
   points-swapped zero (suc zero) g = points-sum q zero (λ p. g (swapped zero p)) ∙ sym (points-sum q zero g)
   points-swapped zero (suc (suc n)) g =
-      points-sum q (suc n) (λ p. g (swapped zero p))
-      ∙ sum_by-ext _ _ (codes_of q) (λ c. points-sum q n (λ p. g (swapped zero (c ∷ p))))
-      ∙ sum_by-swap (λ c d. sum_by (λ p. g (d ∷ c ∷ p)) (points q n)) (codes_of q) (codes_of q)
-      ∙ sum_by-ext _ _ (codes_of q) (λ d. sym (points-sum q n (λ p. g (d ∷ p))))
-      ∙ sym (points-sum q (suc n) g)
+      cc (
+        points-sum q (suc n) (λ p. g (swapped zero p)),
+        sum_by-ext _ _ (codes_of q) (λ c. points-sum q n (λ p. g (swapped zero (c ∷ p)))),
+        sum_by-swap (λ c d. sum_by (λ p. g (d ∷ c ∷ p)) (points q n)) (codes_of q) (codes_of q),
+        sum_by-ext _ _ (codes_of q) (λ d. sym (points-sum q n (λ p. g (d ∷ p)))),
+        points-sum q (suc n) g,
+      )
   points-swapped (suc k) zero g = refl
   points-swapped (suc k) (suc n) g =
       points-sum q n (λ p. g (swapped (suc k) p))
@@ -105,9 +109,7 @@ module _ (q m : ℕ) (f : IsField q) where
       (recursion_from_All _ (points q s)
       (all-points q s some
       (λ u. test (combination q m u (swapped k rows)) u ≡ test (combination q m (swapped k u) rows) (swapped k u))
-      (λ u hu. ap (λ v. test v u) (swapped-combination k u rows hu.len) ∙ ap
-      (λ x. cond (eqb (number q (combination q m (swapped k u) rows)) 0 && eqb x n) 1 0)
-      (sym (swapped-weight k u)))))
+      (λ u hu. cc (swapped-combination k u rows hu.len, swapped-weight k u))))
       ∙ points-swapped k s (λ u. test (combination q m u rows) u))
 
   -- a swap of neighbouring factors keeps what is allowed
@@ -120,9 +122,9 @@ module _ (q m : ℕ) (f : IsField q) where
     block_vectors = hy;
     allowed = λ ok. record {
       none = λ u b hu' hb bad e.
-          let hu : IsVector q (length xs) u = subst (λ n. IsVector q n u) (length-swapped k xs) hu' in
+          let hu : IsVector q (length xs) u = rw (length-swapped k xs) at hu' in
           ok.none (swapped k u) b (swapped-vector (length xs) k u hu) hb (closed u b k bad)
-          (ap (λ v. plus q v (combination q m b ys)) (sym (swapped-combination k u xs hu.len)) ∙ e);
+          (cc (swapped-combination k u xs hu.len, e));
     };
     fewer = λ n. (let e = swapped_words k xs n in omega arith);
   }
@@ -151,14 +153,14 @@ pub move_back : {X : Type 0} (x : X) (us xs : List X) → (ks : List ℕ) × (re
 move_back x [] xs = ([], refl)
 move_back x (u ∷ us) xs =
     (let r = move_back x us xs in
-    (0 ∷ map (λ k. suc k) r.0, reordered-inside u r.0 (x ∷ us ++ xs) ∙ ap (λ z. u ∷ z) r.1))
+    (0 ∷ map (λ k. suc k) r.0, cc (reordered-inside u r.0 (x ∷ us ++ xs), r.1)))
 
 -- a reordering after some elements
 pub reorder_behind : {X : Type 0} (us xs : List X) (ks : List ℕ)
     → (js : List ℕ) × (reordered js (us ++ xs) ≡ us ++ reordered ks xs)
 reorder_behind [] xs ks = (ks, refl)
 reorder_behind (u ∷ us) xs ks =
-    (let r = reorder_behind us xs ks in (map (λ k. suc k) r.0, reordered-inside u r.0 (us ++ xs) ∙ ap (λ z. u ∷ z) r.1))
+    (let r = reorder_behind us xs ks in (map (λ k. suc k) r.0, cc (reordered-inside u r.0 (us ++ xs), r.1)))
 
 -- unit vectors in order
 abbrev pub units_from : ℕ → ℕ → ℕ → List (List ℕ)
@@ -186,8 +188,12 @@ part m k n (r ∷ xs) h = elim h [
         others = r ∷ p.others;
         total = p.total;
         short = (short-le k n r (formed-up m k n xs s.1) s.0, p.short);
-        is = reordered-append (map (λ k. suc k) p.swaps) back.0 (r ∷ xs) ∙ ap (reordered back.0)
-            (reordered-inside r p.swaps xs ∙ ap (λ z. r ∷ z) p.is) ∙ back.1;
+        is = cc (
+          reordered-append (map (λ k. suc k) p.swaps) back.0 (r ∷ xs),
+          reordered-inside r p.swaps xs,
+          p.is,
+          back.1,
+        );
       }
   | inr s ↦
       let p = part m (suc k) n xs s.2 in
@@ -234,6 +240,6 @@ sort_falling q (x ∷ xs) =
       map (λ k. suc k) p.0
           ++ r.0,
       subst (FallsWeakly q)
-          (sym (reordered-append (map (λ k. suc k) p.0) r.0 (x ∷ xs) ∙ ap (reordered r.0) (reordered-inside x p.0 xs)))
+          (sym (cc (reordered-append (map (λ k. suc k) p.0) r.0 (x ∷ xs), reordered-inside x p.0 xs)))
           r.1,
     )

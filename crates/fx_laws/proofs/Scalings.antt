@@ -1,6 +1,6 @@
 -- Scaling each row by a nonzero code scales each zero sum, entry by entry.
-use Rattle.std.proofs.Common.{ℕ, ◌≡◌, ◌<◌, ◌+◌, zero, suc, cond, eqb, ◌&&◌, List, [], ◌∷◌, length, refl, sym, subst}
-use Rattle.std.proofs.Common.{◌∙◌, ap, ap₂, arith, inl, inr}
+use Rattle.std.proofs.Common.{ℕ, ◌≡◌, ◌<◌, zero, suc, cond, eqb, ◌&&◌, List, [], ◌∷◌, length, refl, sym, subst}
+use Rattle.std.proofs.Common.{◌∙◌, ap, arith, inl, inr}
 use Rattle.std.specs.Prelude.{nat_lt}
 use Rattle.std.specs.List.{AllByRecursion, sum_by}
 use Rattle.std.proofs.lemmas.List.Sums.{sum_by-cons}
@@ -8,7 +8,7 @@ use Rattle.std.proofs.lemmas.List.Elements.{recursion_from_All}
 use Rattle.std.proofs.lemmas.Bool.{cases_eq}
 use Rattle.std.proofs.lemmas.Bool.Decides.{nat_tests}
 use Rattle.fx_designs.specs.Galois.{mul, inv, IsField, number, codes_of}
-use Rattle.fx_designs.specs.Vectors.{plus, scale, combination, IsVector, weight}
+use Rattle.fx_designs.specs.Vectors.{scale, combination, IsVector, weight}
 use Rattle.fx_designs.specs.Runs.{points}
 use Rattle.fx_laws.specs.Raises.{IsAllowed, words}
 use Rattle.fx_laws.specs.Scalings.{AreScalars, scaled, times, IsScalable}
@@ -61,7 +61,7 @@ module _ (q : ℕ) (f : IsField q) where
   pub mul-positive : (c a : ℕ) → 0 < c → c < q → a < q → nat_lt 0 (mul q c a) ≡ nat_lt 0 a
   mul-positive c a some hc ha =
       elim (cases_eq a 0) [
-        | inl e ↦ (let none : mul q c a ≡ 0 = ap (mul q c) e ∙ f.mul_zero c in rw (none, e) refl)
+        | inl e ↦ (let none : mul q c a ≡ 0 = cc (e, f.mul_zero c) in rw (none, e) refl)
         | inr ne ↦ elim (cases_eq (mul q c a) 0) [
           | inl z ↦ absurd (ne (mul-zero-either q f a c ha hc some (f.mul_comm a c ∙ z)))
           | inr nz ↦ grind (arith, nat_tests)
@@ -74,10 +74,12 @@ module _ (q : ℕ) (f : IsField q) where
   times-weight [] (a ∷ u) h e hu = absurd (omega arith)
   times-weight (c ∷ cs) [] h e hu = absurd (omega arith)
   times-weight (c ∷ cs) (a ∷ u) h e hu =
-      sum_by-cons (λ c. cond (nat_lt 0 c) 1 0) (mul q c a) (times q cs u)
-      ∙ ap₂ (λ (x y : ℕ). x + y) (ap (λ b. cond b 1 0) (mul-positive c a h.0.0 h.0.1 hu.0))
-      (times-weight cs u h.1 (omega arith) hu.1)
-      ∙ sym (sum_by-cons (λ c. cond (nat_lt 0 c) 1 0) a u)
+      cc (
+        sum_by-cons (λ c. cond (nat_lt 0 c) 1 0) (mul q c a) (times q cs u),
+        mul-positive c a h.0.0 h.0.1 hu.0,
+        times-weight cs u h.1 (omega arith) hu.1,
+        sum_by-cons (λ c. cond (nat_lt 0 c) 1 0) a u,
+      )
 
   pub points-times : (n : ℕ) (cs : List ℕ) (g : List ℕ → ℕ) → AreScalars q cs → length cs ≡ n
       → sum_by (λ p. g (times q cs p)) (points q n) ≡ sum_by g (points q n)
@@ -86,14 +88,15 @@ module _ (q : ℕ) (f : IsField q) where
   points-times zero (c ∷ cs) g h e = absurd (omega arith)
   points-times (suc n) (c ∷ cs) g h e =
       let back : (a x : ℕ) → 0 < a → a < q → x < q → mul q (inv q a) (mul q a x) ≡ x =
-      λ a x some ha hx. sym (f.mul_assoc (inv q a) a x) ∙ ap (λ z. mul q z x) (inv-mul q f a some ha) ∙ one-mul q f
-      x hx in
-      points-sum q n (λ p. g (times q (c ∷ cs) p))
-      ∙ sum_by-ext _ _ (codes_of q) (λ a. points-times n cs (λ p. g (mul q c a ∷ p)) h.1 (omega arith))
-      ∙ sum_by-turn q (λ a. sum_by (λ p. g (a ∷ p)) (points q n)) (λ a. mul q c a) (λ x. mul q (inv q c) x)
-      (λ a ha. f.mul_code c a) (λ x hx. f.mul_code (inv q c) x) (λ a ha. back c a h.0.0 h.0.1 ha)
-      (λ x hx. sym (f.mul_assoc c (inv q c) x) ∙ ap (λ z. mul q z x) (f.mul_inv c h.0.0 h.0.1) ∙ one-mul q f x hx)
-      ∙ sym (points-sum q n g)
+      λ a x some ha hx. cc (f.mul_assoc (inv q a) a x, inv-mul q f a some ha, one-mul q f x hx) in
+      cc (
+        points-sum q n (λ p. g (times q (c ∷ cs) p)),
+        sum_by-ext _ _ (codes_of q) (λ a. points-times n cs (λ p. g (mul q c a ∷ p)) h.1 (omega arith)),
+        sum_by-turn q (λ a. sum_by (λ p. g (a ∷ p)) (points q n)) (λ a. mul q c a) (λ x. mul q (inv q c) x)
+            (λ a ha. f.mul_code c a) (λ x hx. f.mul_code (inv q c) x) (λ a ha. back c a h.0.0 h.0.1 ha)
+            (λ x hx. sym (f.mul_assoc c (inv q c) x) ∙ ap (λ z. mul q z x) (f.mul_inv c h.0.0 h.0.1) ∙ one-mul q f x hx),
+        points-sum q n g,
+      )
 
   pub scaled_words : (m : ℕ) (cs : List ℕ) (rows : List (List ℕ)) (k : ℕ) → AreScalars q cs → length cs ≡ length rows
       → words q m (scaled q cs rows) k ≡ words q m rows k
@@ -110,9 +113,7 @@ module _ (q : ℕ) (f : IsField q) where
       (all-points q n some
       (λ u. test (combination q m u (scaled q cs rows)) u
       ≡ test (combination q m (times q cs u) rows) (times q cs u))
-      (λ u hu. ap (λ v. test v u) (scaled-combination m cs u rows e hu.len) ∙ ap
-      (λ x. cond (eqb (number q (combination q m (times q cs u) rows)) 0 && eqb x k) 1 0)
-      (sym (times-weight cs u h (e ∙ sym hu.len) hu.codes)))))
+      (λ u hu. cc (scaled-combination m cs u rows e hu.len, times-weight cs u h (e ∙ sym hu.len) hu.codes))))
       ∙ points-times n cs (λ u. test (combination q m u rows) u) h e)
 
   pub scaled_allowed : (m : ℕ) (Forbidden : List ℕ → List ℕ → Type 0) (cs ds : List ℕ) (factors blocks : List (List ℕ))
@@ -121,10 +122,9 @@ module _ (q : ℕ) (f : IsField q) where
       → IsAllowed q m Forbidden (scaled q cs factors) (scaled q ds blocks)
   scaled_allowed m Forbidden cs ds factors blocks hc hd e e' closed ok = record {
     none = λ u b hu' hb' bad z.
-        let hu : IsVector q (length factors) u = subst (λ n. IsVector q n u) (scaled-length cs factors e) hu' in
-        let hb : IsVector q (length blocks) b = subst (λ n. IsVector q n b) (scaled-length ds blocks e') hb' in
+        let hu : IsVector q (length factors) u = rw (scaled-length cs factors e) at hu' in
+        let hb : IsVector q (length blocks) b = rw (scaled-length ds blocks e') at hb' in
         ok.none (times q cs u) (times q ds b) (times-vector (length factors) cs u e hu)
         (times-vector (length blocks) ds b e' hb) (closed u b cs ds hu hb hc hd e e' bad)
-        (ap₂ (plus q) (sym (scaled-combination m cs u factors e hu.len))
-        (sym (scaled-combination m ds b blocks e' hb.len)) ∙ z);
+        (cc (scaled-combination m cs u factors e hu.len, scaled-combination m ds b blocks e' hb.len, z));
   }

@@ -24,23 +24,31 @@ one-mul q f a h = f.mul_comm 1 a ∙ f.mul_one a h
 -- -d x + (y + d x) is y
 pub add-back : (q : ℕ) (f : IsField q) (d x y : ℕ) → y < q → add q (mul q (neg q d) x) (add q y (mul q d x)) ≡ y
 add-back q f d x y h =
-    ap (add q (mul q (neg q d) x)) (f.add_comm y (mul q d x)) ∙ sym (f.add_assoc (mul q (neg q d) x) (mul q d x) y)
-    ∙ ap (λ z. add q z y) (sym (add-mul q f (neg q d) d x) ∙ ap (λ z. mul q z x) (neg-add q f d) ∙ zero-mul q f x) ∙
-    zero-add-code q f y h
+    cc (
+      f.add_comm y (mul q d x),
+      f.add_assoc (mul q (neg q d) x) (mul q d x) y,
+      add-mul q f (neg q d) d x,
+      neg-add q f d,
+      zero-mul q f x,
+      zero-add-code q f y h,
+    )
 
 -- x + (-1/c) x c is 0
 pub add-away : (q : ℕ) (f : IsField q) (c x : ℕ) → 0 < c → c < q → x < q
     → add q x (mul q (mul q (neg q (inv q c)) x) c) ≡ 0
 add-away q f c x some hc hx =
     let turned : mul q (mul q (neg q (inv q c)) x) c ≡ mul q (mul q (neg q (inv q c)) c) x =
-    f.mul_assoc (neg q (inv q c)) x c ∙ ap (mul q (neg q (inv q c))) (f.mul_comm x c) ∙ sym
-    (f.mul_assoc (neg q (inv q c)) c x) in
-    let same : x ≡ mul q (mul q (inv q c) c) x = sym (ap (λ z. mul q z x) (inv-mul q f c some hc) ∙ one-mul q f x hx) in
-    ap (add q x) turned ∙ ap (λ z. add q z (mul q (mul q (neg q (inv q c)) c) x)) same
-    ∙ sym (add-mul q f (mul q (inv q c) c) (mul q (neg q (inv q c)) c) x)
-    ∙ ap (λ z. mul q z x)
-    (sym (add-mul q f (inv q c) (neg q (inv q c)) c) ∙ ap (λ z. mul q z c) (f.add_neg (inv q c)) ∙ zero-mul q f c) ∙
-    zero-mul q f x
+    cc (f.mul_assoc (neg q (inv q c)) x c, f.mul_comm x c, f.mul_assoc (neg q (inv q c)) c x) in
+    let same : x ≡ mul q (mul q (inv q c) c) x = sym (cc (inv-mul q f c some hc, one-mul q f x hx)) in
+    cc (
+      turned,
+      same,
+      add-mul q f (mul q (inv q c) c) (mul q (neg q (inv q c)) c) x,
+      add-mul q f (inv q c) (neg q (inv q c)) c,
+      f.add_neg (inv q c),
+      zero-mul q f c,
+      zero-mul q f x,
+    )
 
 -- a vector that is not 0 has a point where it is 1
 pub nonzero-point : (q m : ℕ) (f : IsField q) (w : List ℕ) → IsVector q m w
@@ -109,11 +117,10 @@ module _ (q m : ℕ) (f : IsField q) where
                   let w' : List ℕ = plus q w (scale q d b) in
                   let hw' : IsVector q m w' = plus-vector q m f w (scale q d b) hw (scale-vector q m f d b hr.0) in
                   let value : (p : List ℕ) → dot q w' p ≡ add q (dot q w p) (mul q d (dot q b p)) =
-                  λ p. dot-plus q f w (scale q d b) p ∙ ap (add q (dot q w p)) (dot-scale q f d b p) in
+                  λ p. cc (dot-plus q f w (scale q d b) p, dot-scale q f d b p) in
                   elim (separate rows w' hr.1 hw') [
                     | inl s ↦ inl (more_span b rows w (neg q d) (f.neg_code d) hr.0 hr.1 hw w'
-                        (λ p. ap (add q (mul q (neg q d) (dot q b p))) (value p) ∙ add-back q f d (dot q b p)
-                        (dot q w p) (dot_code q f w p)) s)
+                        (λ p. cc (value p, add-back q f d (dot q b p) (dot q w p) (dot_code q f w p))) s)
                     | inr at' ↦
                         let p1 : List ℕ = at'.0 in
                         let x : ℕ = dot q b p1 in
@@ -133,9 +140,7 @@ module _ (q m : ℕ) (f : IsField q) where
                             point = plus-vector q m f p1 (scale q (mul q d x) p0) at'.1.point
                                 (scale-vector q m f (mul q d x) p0 at.1.point);
                             none = rw (first, others) refl;
-                            one = moved w ∙ ap (λ y. add q (dot q w p1) (mul q (mul q d x) y)) at.1.one ∙ ap
-                                (add q (dot q w p1)) (f.mul_one (mul q d x) (f.mul_code d x)) ∙ sym (value p1) ∙
-                                at'.1.one;
+                            one = cc (moved w, at.1.one, f.mul_one (mul q d x) (f.mul_code d x), value p1, at'.1.one);
                           },
                         )
                   ]

@@ -20,8 +20,8 @@ pub sum_by-turn : (q : ℕ) (h φ ψ : ℕ → ℕ) → ((c : ℕ) → c < q →
 sum_by-turn q h φ ψ hφ hψ back forth =
     let turn : (c x : ℕ) → c < q → x < q → eqb x (φ c) ≡ eqb c (ψ x) = λ c x hc hx.
     elim (cases_eq x (φ c)) [
-      | inl e ↦ eq-eqb x (φ c) e ∙ sym (eq-eqb c (ψ x) (sym (back c hc) ∙ ap ψ (sym e)))
-      | inr ne ↦ ne_eqb x (φ c) ne ∙ sym (ne_eqb c (ψ x) (λ e. ne (sym (forth x hx) ∙ ap φ (sym e))))
+      | inl e ↦ eq-eqb x (φ c) e ∙ sym (eq-eqb c (ψ x) (cc (back c hc, e)))
+      | inr ne ↦ ne_eqb x (φ c) ne ∙ sym (ne_eqb c (ψ x) (λ e. ne (cc (forth x hx, e))))
     ] in
     sum_by-same (λ c. h (φ c)) (λ c. sum_by (λ x. cond (eqb x (φ c)) (h x) 0) (codes_of q)) 0 q
     (λ c low high. sym (sum_by-pick h (φ c) 0 q (omega arith) (let e = hφ c (omega arith) in omega arith)))
@@ -29,7 +29,7 @@ sum_by-turn q h φ ψ hφ hψ back forth =
     ∙ sum_by-same (λ x. sum_by (λ c. cond (eqb x (φ c)) (h x) 0) (codes_of q)) h 0 q
     (λ x low high.
     sum_by-same (λ c. cond (eqb x (φ c)) (h x) 0) (λ c. cond (eqb c (ψ x)) (h x) 0) 0 q
-    (λ c low' high'. ap (λ b. cond b (h x) 0) (turn c x (omega arith) (omega arith)))
+    (λ c low' high'. cc (turn c x (omega arith) (omega arith)))
     ∙ sum_by-pick (λ c. h x) (ψ x) 0 q (omega arith) (let e = hψ x (omega arith) in omega arith))
 
 pub points-sum : (q n : ℕ) (g : List ℕ → ℕ)
@@ -44,14 +44,17 @@ shift q zero f [] g h = refl
 shift q (suc n) f [] g h = absurd (let e = h.len in omega arith)
 shift q zero f (a ∷ t) g h = absurd (let e = h.len in omega arith)
 shift q (suc n) f (a ∷ t) g h =
-    points-sum q n (λ p. g (plus q p (a ∷ t)))
-    ∙ sum_by-ext _ _ (codes_of q)
-    (λ c. shift q n f t (λ p. g (add q c a ∷ p)) (record { len = (let e = h.len in omega arith); codes = h.codes.1 }))
-    ∙ sum_by-turn q (λ c. sum_by (λ p. g (c ∷ p)) (points q n)) (λ c. add q c a) (λ x. add q x (neg q a))
-    (λ c hc. f.add_code c a) (λ x hx. f.add_code x (neg q a))
-    (λ c hc. f.add_assoc c a (neg q a) ∙ ap (add q c) (f.add_neg a) ∙ f.add_zero c hc)
-    (λ x hx. f.add_assoc x (neg q a) a ∙ ap (add q x) (f.add_comm (neg q a) a ∙ f.add_neg a) ∙ f.add_zero x hx)
-    ∙ sym (points-sum q n g)
+    cc (
+      points-sum q n (λ p. g (plus q p (a ∷ t))),
+      sum_by-ext _ _ (codes_of q)
+          (λ c. shift q n f t (λ p. g (add q c a ∷ p))
+          (record { len = (let e = h.len in omega arith); codes = h.codes.1 })),
+      sum_by-turn q (λ c. sum_by (λ p. g (c ∷ p)) (points q n)) (λ c. add q c a) (λ x. add q x (neg q a))
+          (λ c hc. f.add_code c a) (λ x hx. f.add_code x (neg q a))
+          (λ c hc. f.add_assoc c a (neg q a) ∙ ap (add q c) (f.add_neg a) ∙ f.add_zero c hc)
+          (λ x hx. f.add_assoc x (neg q a) a ∙ ap (add q x) (f.add_comm (neg q a) a ∙ f.add_neg a) ∙ f.add_zero x hx),
+      points-sum q n g,
+    )
 
 -- the place of a point
 pub place : ℕ → List ℕ → ℕ

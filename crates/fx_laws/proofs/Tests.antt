@@ -24,13 +24,12 @@ pub range_decides : (p : ℕ → Bool) (n : ℕ) → Decides (list_all p (range_
 range_decides p n =
     let both = all_true p (range_with_len 0 n) in (
       λ e k h.
-          subst (λ z. p z ≡ true) (get_or-range_with_len 0 n k 0 h ∙ zero-add k)
-          (All-get_or (λ x. p x ≡ true) (range_with_len 0 n) k 0
+          rw (get_or-range_with_len 0 n k 0 h ∙ zero-add k) at (All-get_or (λ x. p x ≡ true) (range_with_len 0 n) k 0
           (subst (λ z. k < z) (sym (length-range_with_len 0 n)) h) (both.0 e)),
       λ each.
           both.1 (All-from_get_or (λ x. p x ≡ true) (range_with_len 0 n) 0 (λ i h.
-          let low : i < n = subst (λ z. i < z) (length-range_with_len 0 n) h in
-          subst (λ z. p z ≡ true) (sym (get_or-range_with_len 0 n i 0 low ∙ zero-add i)) (each i low))),
+          let low : i < n = rw (length-range_with_len 0 n) at h in
+          rw (get_or-range_with_len 0 n i 0 low ∙ zero-add i) (each i low))),
     )
 
 -- of each vector of length n

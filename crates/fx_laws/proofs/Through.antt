@@ -1,5 +1,5 @@
 -- Lists that are cut after the first item that passes, and what is found in a list of two parts.
-use Rattle.std.proofs.Common.{◌≡◌, Bool, true, false, ◌||◌, cond, List, [], ◌∷◌, ◌++◌, Some, None, refl, ap, ◌∙◌}
+use Rattle.std.proofs.Common.{◌≡◌, Bool, true, false, ◌||◌, cond, List, [], ◌∷◌, ◌++◌, Some, None, refl, ◌∙◌}
 use Rattle.std.specs.List.{filter, list_any, find, AllByRecursion}
 use Rattle.std.proofs.lemmas.Bool.{cond-false}
 use Rattle.fx_laws.specs.Walks.{through}
@@ -10,7 +10,7 @@ module _ {X : Type 0} (D : X → Bool) where
   through-none [] h = refl
   through-none (x ∷ xs) h = elim (D x) as (λ b. (b || list_any D xs) ≡ false → x ∷ cond b [] (through D xs) ≡ x ∷ xs) [
     | true ↦ λ e. absurd (cc e)
-    | false ↦ λ e. ap (λ ys. x ∷ ys) (through-none xs e)
+    | false ↦ λ e. cc (through-none xs e)
   ] h
 
   pub through-left : (xs ys : List X) → list_any D xs ≡ true → through D (xs ++ ys) ≡ through D xs
@@ -19,7 +19,7 @@ module _ {X : Type 0} (D : X → Bool) where
       elim (D x) as
       (λ b. (b || list_any D xs) ≡ true → x ∷ cond b [] (through D (xs ++ ys)) ≡ x ∷ cond b [] (through D xs)) [
         | true ↦ λ e. refl
-        | false ↦ λ e. ap (λ zs. x ∷ zs) (through-left xs ys e)
+        | false ↦ λ e. cc (through-left xs ys e)
       ] h
 
   pub through-right : (xs ys : List X) → list_any D xs ≡ false → through D (xs ++ ys) ≡ xs ++ through D ys
@@ -28,7 +28,7 @@ module _ {X : Type 0} (D : X → Bool) where
       elim (D x) as
       (λ b. (b || list_any D xs) ≡ false → x ∷ cond b [] (through D (xs ++ ys)) ≡ x ∷ (xs ++ through D ys)) [
         | true ↦ λ e. absurd (cc e)
-        | false ↦ λ e. ap (λ zs. x ∷ zs) (through-right xs ys e)
+        | false ↦ λ e. cc (through-right xs ys e)
       ] h
 
   pub find-right : (xs ys : List X) → list_any D xs ≡ false → find D (xs ++ ys) ≡ find D ys

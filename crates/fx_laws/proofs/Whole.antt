@@ -1,12 +1,9 @@
 -- For rows that are allowed there are canonical ones that are allowed, with no more words.
-use Rattle.std.proofs.Common.{ℕ, ◌≡◌, ◌≤◌, ◌+◌, min, List, [], ◌∷◌, ◌++◌, map, length, refl, sym, subst, ◌∙◌, ap, arith}
-use Rattle.std.proofs.Common.{◌⊎◌}
-use Rattle.std.specs.List.{AllByRecursion}
+use Rattle.std.proofs.Common.{ℕ, ◌≡◌, ◌≤◌, ◌+◌, min, List, [], ◌∷◌, ◌++◌, map, length, refl, sym, subst, ◌∙◌, arith}
 use Rattle.std.proofs.lemmas.List.{length-map, map-append}
 use Rattle.fx_base.proofs.Lists.{each-append}
 use Rattle.fx_designs.specs.Galois.{IsField}
-use Rattle.fx_designs.specs.Vectors.{scale, zeros, IsVector}
-use Rattle.fx_laws.specs.Facts.{IsNormal}
+use Rattle.fx_designs.specs.Vectors.{IsVector}
 use Rattle.fx_designs.specs.Spans.{rank_of}
 use Rattle.fx_laws.specs.Changes.{IsFormedTo}
 use Rattle.fx_laws.specs.Canonical.{IsCanonical}
@@ -38,7 +35,7 @@ module _ (q m : ℕ) (f : IsField q) where
       → scaled q (map (normal_factor q m f) (xs ++ ys)) (xs ++ ys)
       ≡ scaled q (map (normal_factor q m f) xs) xs ++ scaled q (map (normal_factor q m f) ys) ys
   scaled-append [] ys = refl
-  scaled-append (x ∷ xs) ys = ap (λ z. scale q (normal_factor q m f x) x ∷ z) (scaled-append xs ys)
+  scaled-append (x ∷ xs) ys = cc (scaled-append xs ys)
 
   pub record IsBetter (Forbidden : List ℕ → List ℕ → Type 0) (xs ys xs' ys' : List (List ℕ)) : Type 0 where
     pub follows : Follows q m Forbidden xs ys xs' ys'
@@ -64,7 +61,7 @@ module _ (q m : ℕ) (f : IsField q) where
       let second : Follows q m Forbidden x1 y1 x2 y2 =
       change_follows q m f Forbidden a made.1.change x1 y1 first.factor_vectors first.block_vectors in
       let formed : IsFormedTo m 0 (x2 ++ y2) made.1.rank =
-      subst (λ r. IsFormedTo m 0 r made.1.rank) (map-append a x1 y1) made.1.formed in
+      rw (map-append a x1 y1) at made.1.formed in
       let cs : List ℕ = map (normal_factor q m f) x2 in
       let ds : List ℕ = map (normal_factor q m f) y2 in
       let x3 : List (List ℕ) = scaled q cs x2 in
@@ -72,19 +69,16 @@ module _ (q m : ℕ) (f : IsField q) where
       let ls : length x2 ≡ s = second.factors ∙ first.factors in
       let lt : length y2 ≡ t = second.blocks ∙ first.blocks in
       let closed' : IsScalable q (length x2) (length y2) Forbidden =
-      subst (λ k. IsScalable q k (length y2) Forbidden) (sym ls)
-      (subst (λ k. IsScalable q s k Forbidden) (sym lt) closed) in
+      rw ls (subst (λ k. IsScalable q s k Forbidden) (sym lt) closed) in
       let third : Follows q m Forbidden x2 y2 x3 y3 =
       scale_follows Forbidden cs ds x2 y2 closed' (factors-scalars q m f x2 second.factor_vectors)
       (factors-scalars q m f y2 second.block_vectors)
       (length-map x2 (normal_factor q m f)) (length-map y2 (normal_factor q m f)) second.factor_vectors
       second.block_vectors in
       let formed' : IsFormedTo m 0 (x3 ++ y3) made.1.rank =
-      subst (λ r. IsFormedTo m 0 r made.1.rank) (scaled-append x2 y2)
-      (formed-scaled q m f 0 made.1.rank (x2 ++ y2) formed) in
+      rw (scaled-append x2 y2) at (formed-scaled q m f 0 made.1.rank (x2 ++ y2) formed) in
       let normal =
-      subst (λ r. AllByRecursion (λ v. (v ≡ zeros m) ⊎ IsNormal v) r) (scaled-append x2 y2)
-      (each_normal q m f (x2 ++ y2)
+      rw (scaled-append x2 y2) at (each_normal q m f (x2 ++ y2)
       (each-append (λ r. IsVector q m r) x2 y2 second.factor_vectors second.block_vectors)) in
       let split = formed-append m 0 made.1.rank x2 y2 formed in
       let split' = formed-append m 0 made.1.rank x3 y3 formed' in

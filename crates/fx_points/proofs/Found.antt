@@ -17,7 +17,7 @@ module _ (set : PointsView) (q m : ℕ) (words : List ℕ)
 
   pub not_in : (x : ℕ) → x < 1024 → bit_in words x ≡ 0 → has set x ≡ false
   not_in x low zero_bit =
-      has_of set q m words x is low ∙ ne_eqb (bit_in words x) 1 (λ one. omega (arith, one, zero_bit))
+      has_of set q m words x is low ∙ ne_eqb (bit_in words x) 1 (λ one. omega arith)
 
   pub none_from : (y x : ℕ) → x ≤ 1024 → AreZeros words y x → IsNoneFrom set y x
   none_from y x le zeros = record { none = λ z above low. not_in z (omega arith) (zeros.zeros z above low) }
@@ -25,7 +25,7 @@ module _ (set : PointsView) (q m : ℕ) (words : List ℕ)
   pub next_below_is : (x y : ℕ) → x ≤ 1024 → IsLastOne words x y → IsNextBelow set x y
   next_below_is x y le last = record {
     below = last.below;
-    within = in_set y (omega (arith, last.below)) last.one;
+    within = in_set y (omega arith) last.one;
     between = none_from (y + 1) x le last.between;
   }
 
@@ -44,9 +44,9 @@ module _ (set : PointsView) (q m : ℕ) (words : List ℕ)
     pub next_absent_is : (x y : ℕ) → x ≤ 1024 → IsLastOne others x y → IsNextAbsentBelow set x y
     next_absent_is x y le last = record {
       below = last.below;
-      absent = not_in y (omega (arith, last.below))
+      absent = not_in y (omega arith)
           (let one = last.one in
-          let flipped = flip y (omega (arith, last.below)) in
+          let flipped = flip y (omega arith) in
           let small = bit_at-lt (get_or words (y / 64) 0) (y % 64) in
           omega arith);
       between = all_from (y + 1) x le last.between;
@@ -80,7 +80,7 @@ module _ (set : PointsView) (q m : ℕ) (words : List ℕ)
     none = λ z above under.
         let same : z / 64 ≡ i = omega arith in
         not_in z (omega arith)
-        (ap (λ k. bit_at (get_or words k 0) (z % 64)) same ∙ none (z % 64) (omega arith) (omega arith));
+        (cc (none (z % 64) (omega arith) (omega arith)));
   }
 
   pub first_of_later : (x i k place : ℕ) → i < 16 → k ≡ i → IsNoneFrom set x (64 * i) → x ≤ 64 * i
@@ -114,7 +114,7 @@ module _ (set : PointsView) (q m : ℕ) (words : List ℕ)
       | inr later ↦
           let here : z / 64 ≡ k = omega arith in
           not_in z (omega arith)
-          (ap (λ j. bit_at (get_or words j 0) (z % 64)) here ∙ zeros (z % 64) (omega arith) (omega arith))
+          (cc (zeros (z % 64) (omega arith) (omega arith)))
     ];
   }
 

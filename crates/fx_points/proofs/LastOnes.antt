@@ -19,10 +19,10 @@ use Rattle.fx_points.proofs.Checks.{passes}
 pub last_bit_is : (w : ℕ) → 0 < w → w < 2 ^ 64 → IsLastBit w (63 - count_leading_zeros 64 w)
 last_bit_is w some fits =
     let top = leading_top 64 w some fits in
-    let j : ℕ = top.0 in
-    let place : 63 - count_leading_zeros 64 w ≡ j = omega (arith, top.1) in
+    let j = top.0 in
+    let place : 63 - count_leading_zeros 64 w ≡ j = omega arith in
     subst (IsLastBit w) (sym place) (record {
-      inside = omega (arith, top.1);
+      inside = omega arith;
       one = one w j top.2 top.3;
       after = λ i above low. bit_at_above w (suc j) i top.3 above;
     })
@@ -32,12 +32,12 @@ last_bit_is w some fits =
 
     quotient : (w p : ℕ) → p ≤ w → w < 2 * p → w / p ≡ 1
     quotient w p least most = let parts : w ≡ 1 * p + (w - p) = omega arith in
-        ap (λ n. n / p) parts ∙ div-mul-add 1 p (w - p) (omega arith)
+        cc (div-mul-add 1 p (w - p) (omega arith))
 
     one : (w j : ℕ) → 2 ^ j ≤ w → w < 2 ^ suc j → bit_at w j ≡ 1
     one w j least most =
-        let half : w < 2 * 2 ^ j = subst (λ k. w < k) (double j) most in
-        ap (λ k. k % 2) (quotient w (2 ^ j) least half)
+        let half : w < 2 * 2 ^ j = rw (double j) at most in
+        cc (quotient w (2 ^ j) least half)
 
 pub shift_fits : (s : ℕ) → s < 64 → 1 * 2 ^ s % 2 ^ 64 ≡ 2 ^ s
 shift_fits s low = eqb-true _ _ (passes (λ s. eqb (1 * 2 ^ s % 2 ^ 64) (2 ^ s)) 64 s refl low)
@@ -74,14 +74,12 @@ module _ (words : List ℕ) (x : ℕ) where
     zeros = λ z above low.
         let block : z / 64 ≡ x / 64 = omega arith in
         let under : z % 64 < x % 64 = omega arith in
-        ap (λ k. bit_at (get_or words k 0) (z % 64)) block
-        ∙ sym (low_bit (get_or words (x / 64) 0) (x % 64) (z % 64) (omega arith) under)
-        ∙ ap (λ w. bit_at w (z % 64)) none ∙ bit_at-zero (z % 64);
+        cc (low_bit (get_or words (x / 64) 0) (x % 64) (z % 64) (omega arith) under, bit_at-zero (z % 64));
   }
 
   pub word_last : (p : ℕ) → IsLastBit rest p → IsLastOne words x (64 * (x / 64) + p)
   word_last p last =
-      let w : ℕ = get_or words (x / 64) 0 in
+      let w = get_or words (x / 64) 0 in
       let one = one_below w (x % 64) p (omega arith) last.one in
       let under = one.0 in
       let y : ℕ = 64 * (x / 64) + p in
@@ -111,8 +109,10 @@ module _ (words : List ℕ) (count some : ℕ) (fits : count ≤ 16)
   pub words_zeros : before ≡ 0 → AreZeros words 0 (64 * count)
   words_zeros is = record {
     zeros = λ z above low.
-        ap (λ w. bit_at w (z % 64))
-        (no_word (z / 64) (omega arith) (ap (λ w. bit_at w (z / 64)) is ∙ bit_at-zero (z / 64))) ∙ bit_at-zero (z % 64);
+        cc (
+          no_word (z / 64) (omega arith) (ap (λ w. bit_at w (z / 64)) is ∙ bit_at-zero (z / 64)),
+          bit_at-zero (z % 64),
+        );
   }
 
   pub last_word : (l : ℕ) → IsLastBit before l → (l < count) × (bit_at some l ≡ 1)
@@ -145,7 +145,7 @@ module _ (words : List ℕ) (count some : ℕ) (fits : count ≤ 16)
 -- the last 1 before some zeros
 pub zeros_after : (words : List ℕ) (x y z : ℕ) → z ≤ x → IsLastOne words z y → AreZeros words z x → IsLastOne words x y
 zeros_after words x y z le last zeros = record {
-  below = omega (arith, last.below);
+  below = omega arith;
   one = last.one;
   between = record {
     zeros = λ i above low. elim (cases_lt i z)
@@ -187,14 +187,16 @@ words_of_lanes f xs ys one two fits =
     past ws i le = get_or-eq_default ws 0 le
 
 one_zero : ◌≡◌ {A = ℕ} 1 0 → ⊥
-one_zero e = omega (arith, e)
+one_zero e = omega arith
 
 -- what the bit for a word says of it
 bit_of_word : (words : List ℕ) (i : ℕ) → AreWords words → i < 16
     → bit_at (mask_l (map (λ w. not (eqb w 0)) words)) i ≡ cond (not (eqb (get_or words i 0) 0)) 1 0
 bit_of_word words i are low =
-    bit_mask_l (map (λ w. not (eqb w 0)) words) i
-    ∙ ap (λ b. cond b 1 0) (get_or-map (λ w. not (eqb w 0)) words i 0 false (omega (arith, are.len)))
+    cc (
+      bit_mask_l (map (λ w. not (eqb w 0)) words) i,
+      get_or-map (λ w. not (eqb w 0)) words i 0 false (omega (arith, are.len)),
+    )
 
 pub none_of : (words : List ℕ) (i : ℕ) → AreWords words → i < 16
     → bit_at (mask_l (map (λ w. not (eqb w 0)) words)) i ≡ 0 → get_or words i 0 ≡ 0

@@ -1,5 +1,5 @@
 -- The multiples of the points in their table.
-use Rattle.std.proofs.Common.{ℕ, ◌≡◌, ◌<◌, ◌≤◌, ◌+◌, ◌-◌, ◌*◌, ◌/◌, ◌%◌, ◌^◌, ◌∙◌, suc, List, length, suc-mul, slice_index}
+use Rattle.std.proofs.Common.{ℕ, ◌≡◌, ◌<◌, ◌+◌, ◌-◌, ◌*◌, ◌/◌, ◌%◌, ◌^◌, ◌∙◌, List, length, suc-mul, slice_index}
 use Rattle.std.proofs.Common.{slice_index_or, mul-le-mul_right, ap, arith}
 use Rattle.std.proofs.lemmas.Nat.{mod-mul-add, div-mul-add}
 use Rattle.std.proofs.lemmas.List.{get_or_default}
@@ -8,8 +8,8 @@ use Rattle.fx_points.specs.Sums.{sum_of}
 -- a place stands among those of the rows before n
 pub place_below : (w n a b : ℕ) → a < n → b < w → a * w + b < n * w
 place_below w n a b ha hb =
-    let wide : suc a * w ≤ n * w = mul-le-mul_right w ha in
-    let next : suc a * w ≡ a * w + w = suc-mul a w in
+    let wide = mul-le-mul_right w ha in
+    let next = suc-mul a w in
     omega arith
 
 -- what the table has for a code and a point
@@ -18,7 +18,7 @@ pub multiple_at : (q m : ℕ) (table : List ℕ) → length table ≡ (q - 1) * 
     → (c x place v : ℕ) → 0 < c → c < q → x < q ^ m → place ≡ (c - 1) * q ^ m + x → v ≡ slice_index_or table place v
     → v ≡ sum_of q c m 0 x
 multiple_at q m table len are c x place v some code low at is =
-    let below : (c - 1) * q ^ m + x < (q - 1) * q ^ m = place_below (q ^ m) (q - 1) (c - 1) x (omega arith) low in
+    let below = place_below (q ^ m) (q - 1) (c - 1) x (omega arith) low in
     let there : place < length table = omega arith in
     let back : c - 1 + 1 ≡ c = omega arith in
     is ∙ get_or_default table place v 0 there ∙ ap (λ k. slice_index table k) at ∙ are ((c - 1) * q ^ m + x) below

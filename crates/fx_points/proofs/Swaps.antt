@@ -1,6 +1,6 @@
 -- Bits that are exchanged in all lanes.
 use Rattle.std.proofs.Common.{ℕ, ◌≡◌, ◌<◌, ◌≤◌, ◌*◌, ◌/◌, ◌%◌, ◌^◌, List, length, get_or, replicate, bit_and, bit_or}
-use Rattle.std.proofs.Common.{slice_index, ltb, refl, ap, ap₂, ◌∙◌, arith}
+use Rattle.std.proofs.Common.{slice_index, ltb, refl, ap₂, ◌∙◌, arith}
 use lib.Bits.{and_le_r}
 use lib.Lanes.{zip2}
 use Rattle.std.proofs.lemmas.Bool.{ltb-true}
@@ -48,19 +48,21 @@ module _ (words : List ℕ) (h s : ℕ) where
 
     left_at : (k : ℕ) → k < 16 → get_or lefts k 0 ≡ bit_and (get_or words k 0) h * 2 ^ s % 2 ^ 64
     left_at k low =
-        get_or-zip2 left_of (zip2 bit_and words halves) places k 0 0 0 (omega (arith, masked_len)) (omega arith)
-        ∙ ap₂ left_of
-        (get_or-zip2 bit_and words halves k 0 0 0 (omega (arith, len)) (omega arith)
-        ∙ ap (bit_and (get_or words k 0)) (get_or-replicate 16 k h 0 low))
-        (get_or-replicate 16 k s 0 low)
+        cc (
+          get_or-zip2 left_of (zip2 bit_and words halves) places k 0 0 0 (omega (arith, masked_len)) (omega arith),
+          get_or-zip2 bit_and words halves k 0 0 0 (omega (arith, len)) (omega arith),
+          get_or-replicate 16 k h 0 low,
+          get_or-replicate 16 k s 0 low,
+        )
 
     right_at : (k : ℕ) → k < 16 → get_or rights k 0 ≡ bit_and (get_or words k 0 / 2 ^ s) h
     right_at k low =
-        get_or-zip2 bit_and (zip2 right_of words places) halves k 0 0 0 (omega (arith, shifted_len)) (omega arith)
-        ∙ ap₂ bit_and
-        (get_or-zip2 right_of words places k 0 0 0 (omega (arith, len)) (omega arith)
-        ∙ ap (right_of (get_or words k 0)) (get_or-replicate 16 k s 0 low))
-        (get_or-replicate 16 k h 0 low)
+        cc (
+          get_or-zip2 bit_and (zip2 right_of words places) halves k 0 0 0 (omega (arith, shifted_len)) (omega arith),
+          get_or-zip2 right_of words places k 0 0 0 (omega (arith, len)) (omega arith),
+          get_or-replicate 16 k s 0 low,
+          get_or-replicate 16 k h 0 low,
+        )
 
     pub lane_of : (k : ℕ) → k < 16 → get_or (zip2 bit_or lefts rights) k 0
         ≡ bit_or (bit_and (get_or words k 0) h * 2 ^ s % 2 ^ 64) (bit_and (get_or words k 0 / 2 ^ s) h)

@@ -1,5 +1,5 @@
 -- Resolutions that no rule matrix meets with its blocks.
-use Rattle.std.proofs.Common.{◌≡◌, ℕ, zero, suc, ◌+◌, ◌-◌, true, List, ◌++◌, subst, arith}
+use Rattle.std.proofs.Common.{◌≡◌, ℕ, zero, suc, ◌+◌, ◌-◌, true, List, ◌++◌, arith}
 use Rattle.std.proofs.lemmas.Bool.{both_ways, false_from_ne_true}
 use Rattle.fx_designs.specs.Galois.{IsField}
 use Rattle.fx_designs.specs.Runs.{runs_of}
@@ -13,11 +13,11 @@ module _ (d : Dimensions) (f : IsField d.q) where
   lower : (runs : List (List ℕ)) (r k : ℕ) → do_runs_meet d (AtResolution (r + k)) runs ≡ true
       → do_runs_meet d (AtResolution r) runs ≡ true
   lower runs r zero met =
-      (let same : r + 0 ≡ r = omega arith in subst (λ x. do_runs_meet d (AtResolution x) runs ≡ true) same met)
+      (let same : r + 0 ≡ r = omega arith in rw same at met)
   lower runs r (suc k) met =
       let next : r + suc k ≡ r + k + 1 = omega arith in
       lower runs r k
-      (lower-resolution d f (r + k) runs (subst (λ x. do_runs_meet d (AtResolution x) runs ≡ true) next met))
+      (lower-resolution d f (r + k) runs (rw next at met))
 
   pub none-higher : NoneMeetsHigher d
   none-higher r k low none factors blocks matrix =
@@ -25,4 +25,4 @@ module _ (d : Dimensions) (f : IsField d.q) where
       false_from_ne_true _
       (λ met. both_ways _ (none factors blocks matrix)
       (lower (runs_of d.q d.m (factors ++ blocks)) r (k - r)
-      (subst (λ x. do_runs_meet d (AtResolution x) (runs_of d.q d.m (factors ++ blocks)) ≡ true) up met)))
+      (rw up at met)))

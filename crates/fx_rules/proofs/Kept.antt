@@ -42,7 +42,7 @@ pub in_turn : {A B : Type 0} (P : A → Type 0) (Q : B → Type 0) (x : Result A
 in_turn P Q (Ok a) f h g = g a h
 in_turn P Q (Err e) f h g = tt
 
-stepped_snoc : (q k : ℕ) (rows : List ℕ) (row : ℕ) → IsStepped q k rows → row ≤ q ^ introduced q k rows
+pub stepped_snoc : (q k : ℕ) (rows : List ℕ) (row : ℕ) → IsStepped q k rows → row ≤ q ^ introduced q k rows
     → IsStepped q k (rows ++ row ∷ [])
 stepped_snoc q k [] row h low = (low, tt)
 stepped_snoc q k (r ∷ rows) row h low = (h.0, stepped_snoc q (if r == q ^ k then k + 1 else k) rows row h.1 low)

@@ -11,7 +11,6 @@ use Rattle.std.proofs.lemmas.Bool.{ltb-false}
 use Rattle.fx_lexer.specs.Bytes.{is_word_byte}
 use Rattle.fx_text.specs.Names.{IsName, is_same_name, place_of}
 use Rattle.std.specs.List.{IsDistinct}
-use Rattle.std.specs.Bool.{one_answer}
 use Rattle.std.specs.Prelude.{codes, bytes_eq}
 use Rattle.std.proofs.lemmas.Slice.Eq.{bytes_eq-Decides}
 use Rattle.std.proofs.lemmas.List.Elements.{recursion_from_All}
@@ -24,6 +23,7 @@ use Rattle.fx_rules.proofs.Moving.{goes_all, is_one}
 use Rattle.fx_rules.specs.Laws.{AreFactors}
 use Rattle.fx_rules.proofs.ReadProducts.{IsWord}
 use Rattle.fx_rules.proofs.ReadLines.{From}
+use Rattle.fx_text.proofs.Distinct.{same_turned}
 
 -- whether each number below n passes
 abbrev pub each_below : ℕ → (ℕ → Bool) → Bool
@@ -79,14 +79,6 @@ record IsPlain (name : List ℕ) : Type 0 where
   pub no_none : is_same_name (codes "none") name ≡ false
   pub no_run : is_same_name (codes "run") name ≡ false
 
-same_sym : (a b : List ℕ) → is_same_name a b ≡ is_same_name b a
-same_sym a b =
-    let la = map to_ascii_lowercase a in
-    let lb = map to_ascii_lowercase b in
-    let d = bytes_eq-Decides la lb in
-    let e = bytes_eq-Decides lb la in
-    one_answer (is_same_name a b) (is_same_name b a) d (λ h. sym (e.0 h), λ h. e.1 (sym h))
-
 -- is a word
 identifier_word : (name : List ℕ) → IsPlain name → IsWord name
 identifier_word name h = record {
@@ -100,8 +92,8 @@ identifier_word name h = record {
         absurd (search (rules, wrong))
     | inr other ↦ other
   ];
-  no_none = same_sym name (codes "none") ∙ h.no_none;
-  no_run = same_sym name (codes "run") ∙ h.no_run;
+  no_none = same_turned name (codes "none") ∙ h.no_none;
+  no_run = same_turned name (codes "run") ∙ h.no_run;
 }
 
 -- where none passes, each does not
@@ -144,7 +136,7 @@ own_prefix (name ∷ names) zero low h = let e = same_self name in rw e refl
 own_prefix (name ∷ names) (suc k) low h =
     let n = get_or names k [] in
     let apart : is_same_name name n ≡ false = at_index names k (omega (arith, low)) h.0 in
-    let other : is_same_name n name ≡ false = same_sym n name ∙ apart in
+    let other : is_same_name n name ≡ false = same_turned n name ∙ apart in
     let rest = own_prefix names k (omega (arith, low)) h.1 in
     rw (other, rest) (omega arith)
   where

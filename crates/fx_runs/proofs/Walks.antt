@@ -93,15 +93,13 @@ xor-parts : (u v : ℕ) → bit_xor u v ≡ bit_xor (u % 2) (v % 2) + 2 * bit_xo
 xor-parts u v =
     let u_is : u ≡ u % 2 + 2 * (u / 2) = omega arith in
     let v_is : v ≡ v % 2 + 2 * (v / 2) = omega arith in
-    ap (λ (x : ℕ). bit_xor x v) u_is ∙ ap (λ (x : ℕ). bit_xor (u % 2 + 2 * (u / 2)) x) v_is ∙ xor-bit (u % 2) (v % 2)
-    (u / 2) (v / 2) (omega arith) (omega arith)
+    cc (u_is, v_is, xor-bit (u % 2) (v % 2) (u / 2) (v / 2) (omega arith) (omega arith))
 
 or-parts : (u v : ℕ) → bit_or u v ≡ bit_or (u % 2) (v % 2) + 2 * bit_or (u / 2) (v / 2)
 or-parts u v =
     let u_is : u ≡ u % 2 + 2 * (u / 2) = omega arith in
     let v_is : v ≡ v % 2 + 2 * (v / 2) = omega arith in
-    ap (λ (x : ℕ). bit_or x v) u_is ∙ ap (λ (x : ℕ). bit_or (u % 2 + 2 * (u / 2)) x) v_is ∙ or-bit (u % 2) (v % 2)
-    (u / 2) (v / 2) (omega arith) (omega arith)
+    cc (u_is, v_is, or-bit (u % 2) (v % 2) (u / 2) (v / 2) (omega arith) (omega arith))
 
 outer-parts : (q u v : ℕ) → outer_of q u v ≡ outer_of q (u % 2) (v % 2) + 2 * outer_of q (u / 2) (v / 2)
 outer-parts q u v = elim (cases_eq q 2) [
@@ -144,8 +142,12 @@ among-differs q u v most (c ∷ f) h =
     let v_is : v % 2 + 2 * (v / 2) ≡ v = omega arith in
     let whole : differs q u v (effect_of (c ∷ f))
     ≡ (differs q (u % 2) (v % 2) (bit_of c) && differs q (u / 2) (v / 2) (effect_of f)) =
-    ap₂ (λ (x y : ℕ). differs q x y (effect_of (c ∷ f))) (sym u_is) (sym v_is) ∙ differs-cons q (u % 2) (v % 2)
-    (bit_of c) (u / 2) (v / 2) (effect_of f) (omega arith) (omega arith) (bit-small c) in
+    cc (
+      u_is,
+      v_is,
+      differs-cons q (u % 2) (v % 2) (bit_of c) (u / 2) (v / 2) (effect_of f) (omega arith) (omega arith)
+          (bit-small c),
+    ) in
     rw (inner_first, inner_rest, outer_first, outer_rest, rest, whole, sym first)
     (and-assoc (leb (bit_xor (u % 2) (v % 2)) (bit_of c)) (leb (bit_of c) (min (outer_of q (u % 2) (v % 2)) most))
     (differs q (u / 2) (v / 2) (effect_of f)))
@@ -184,8 +186,7 @@ module _ (runs : RunsView) (within : Within) where
           → 0 < weight (start ++ rest) → is_balanced_over runs within (start ++ rest) ≡ true
       each [] h among heavy =
           let e : start ++ [] ≡ start = append-nil start in
-          subst (λ (f : List ℕ). is_balanced_over runs within f ≡ true) (sym e)
-          (balanced (eqb-true inner 0 among) (subst (λ (f : List ℕ). 0 < weight f) e heavy))
+          rw e (balanced (eqb-true inner 0 among) (subst (λ (f : List ℕ). 0 < weight f) e heavy))
       each (c ∷ rest) h among heavy = absurd (omega (arith, h.len, length-append start (c ∷ rest)))
 
   pub whole-tells : (inner outer most : ℕ) (start : List ℕ) → IsVector q s start
@@ -193,8 +194,7 @@ module _ (runs : RunsView) (within : Within) where
       → inner ≡ 0 → 0 < weight start → is_balanced_over runs within start ≡ true
   whole-tells inner outer most start h all none heavy =
       let e : start ≡ start ++ [] = sym (append-nil start) in
-      subst (λ (f : List ℕ). is_balanced_over runs within f ≡ true) (sym e)
-      (all.each [] (subst (IsVector q s) e h) (eq-eqb inner 0 none) (subst (λ (f : List ℕ). 0 < weight f) e heavy))
+      rw e (all.each [] (subst (IsVector q s) e h) (eq-eqb inner 0 none) (subst (λ (f : List ℕ). 0 < weight f) e heavy))
 
   -- the codes that may come next
   abbrev pub codes_of : ℕ → ℕ → ℕ
@@ -223,8 +223,7 @@ module _ (runs : RunsView) (within : Within) where
           let least : inner % 2 ≤ c = grind (arith, nat_tests) in
           let below : c < codes_of outer most = grind (arith, nat_tests) in
           let e : start ++ c ∷ rest ≡ (start ++ c ∷ []) ++ rest = sym (append_assoc start (c ∷ []) rest) in
-          subst (λ (f : List ℕ). is_balanced_over runs within f ≡ true) (sym e)
-          ((all c least below).each rest (subst (IsVector q s) e h) parts'.1
+          rw e ((all c least below).each rest (subst (IsVector q s) e h) parts'.1
           (subst (λ (f : List ℕ). 0 < weight f) e heavy))
 
   pub one-code : (inner outer most : ℕ) (start : List ℕ) (c : ℕ) → inner % 2 ≤ c → c < codes_of outer most
@@ -235,8 +234,7 @@ module _ (runs : RunsView) (within : Within) where
         let e : (start ++ c ∷ []) ++ rest ≡ start ++ c ∷ rest = append_assoc start (c ∷ []) rest in
         let low : nat_le (inner % 2) (bit_of c) ≡ true = le-leb _ _ (grind (arith, nat_tests)) in
         let high : nat_le (bit_of c) (min (outer % 2) most) ≡ true = le-leb _ _ (grind (arith, nat_tests)) in
-        subst (λ (f : List ℕ). is_balanced_over runs within f ≡ true) (sym e)
-        (all.each (c ∷ rest) (subst (IsVector q s) e h) (and_from _ _ low (and_from _ _ high among))
+        rw e (all.each (c ∷ rest) (subst (IsVector q s) e h) (and_from _ _ low (and_from _ _ high among))
         (subst (λ (f : List ℕ). 0 < weight f) e heavy));
   }
 
@@ -312,8 +310,7 @@ module _ (runs : RunsView) (within : Within) where
         sym ((each_decides (λ f. not (is_zero f) && false)).1
         (λ f h t. absurd (both_ways false refl (and_parts (not (is_zero f)) false t).1)))
     each-any test (e ∷ effects) =
-        ap (λ (b : Bool). each_balanced runs within (λ f. not (is_zero f) && test e.0 f) && b) (each-any test effects)
-        ∙ sym (each-either (test e.0) (λ f. list_any (λ e. test e f) (numbers_of effects)))
+        cc (each-any test effects, each-either (test e.0) (λ f. list_any (λ e. test e f) (numbers_of effects)))
 
     -- the differences of vectors of one effect and of others or zero
     pub each-told : (estimate besides : List Effect) (u : ℕ)
@@ -326,11 +323,12 @@ module _ (runs : RunsView) (within : Within) where
         let one = λ (v : ℕ) (f : List ℕ). differs q u v (effect_of f) in
         let any = λ (effects : List Effect) (f : List ℕ). list_any (λ v. differs q u v (effect_of f))
         (numbers_of effects) in
-        ap₂ (λ (a b : Bool). each_balanced runs within (λ f. not (is_zero f) && one 0 f) && (a && b))
-        (each-any one estimate) (each-any one besides)
-        ∙ ap (λ (b : Bool). each_balanced runs within (λ f. not (is_zero f) && one 0 f) && b)
-        (sym (each-either (any estimate) (any besides)))
-        ∙ sym (each-either (one 0) (λ f. any estimate f || any besides f))
+        cc (
+          each-any one estimate,
+          each-any one besides,
+          each-either (any estimate) (any besides),
+          each-either (one 0) (λ f. any estimate f || any besides f),
+        )
 
   module _ (f : IsField runs.shape.q) where
     some_code : 0 < runs.shape.q
@@ -352,11 +350,10 @@ module _ (runs : RunsView) (within : Within) where
         each-any some_code (λ u x. differs_from_some q (numbers_of estimate) (numbers_of besides) (effect_of x) u)
         estimate
         ∙ each-same some_code _ (must_balance d (ForEffects (numbers_of estimate) (numbers_of besides)))
-        (λ x h. ap
-        (λ (b : Bool). not b
-        && list_any (λ u. differs_from_some q (numbers_of estimate) (numbers_of besides) (effect_of x) u)
-        (numbers_of estimate)) (is_zero-effect x)
-        ∙ sym (balances-is d f (ForEffects (numbers_of estimate) (numbers_of besides)) asked x h))
+        (λ x h. cc (
+          is_zero-effect x,
+          balances-is d f (ForEffects (numbers_of estimate) (numbers_of besides)) asked x h,
+        ))
 
     pub each-light : (r : ℕ) (among : List ℕ → Bool) → s ≤ MOST_FACTORS
         → ((x : List ℕ) → length x ≤ MOST_FACTORS → among x ≡ nat_le (weight x) (r - 1)) → 3 ≤ r
@@ -402,7 +399,7 @@ module _ (runs : RunsView) (question : Question) (same : runs.shape ≡ question
   meets-by = rw same refl
 
   pub not-balanced : balanced ≡ false → met ≡ false
-  not-balanced e = meets-by ∙ ap (λ (b : Bool). b && (eqb question.shape.t 0 || (even && estimable))) e
+  not-balanced e = cc (meets-by, e)
 
   pub without-blocks : balanced ≡ true → question.shape.t ≡ 0 → met ≡ true
   without-blocks e none =

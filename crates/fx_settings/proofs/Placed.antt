@@ -26,7 +26,7 @@ use Rattle.fx_settings.specs.Settings.{value_place, size_place, resolution_place
 use Rattle.fx_settings.specs.Settings.{block_value_place, rules, undivided, unblocked_of, block_rules, divided}
 use Rattle.fx_settings.specs.Settings.{step_settings_of}
 use Rattle.fx_text.proofs.Placed as placed
-use Rattle.fx_text.proofs.Placed.{IsPlaced, ArePlaced, AreAllPlaced, Placed}
+use Rattle.fx_text.proofs.Placed.{ArePlaced, AreAllPlaced, Placed}
 
 -- one of these places
 abbrev pub IsPlace : (ℕ → ℕ → Type 0) → Place → Type 0

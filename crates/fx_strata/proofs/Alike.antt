@@ -1,12 +1,11 @@
 -- Isomorphic designs have as many clear words.
-use Rattle.std.proofs.Common.{ℕ, ◌≡◌, cond, eqb, ◌&&◌, ◌||◌, List, [], ◌∷◌, map, length, zero, suc, refl, sym, ◌∙◌, ap}
+use Rattle.std.proofs.Common.{ℕ, ◌≡◌, cond, eqb, ◌&&◌, ◌||◌, List, [], ◌∷◌, map, length, zero, suc, refl, sym, ◌∙◌}
 use Rattle.std.proofs.Common.{ap₂}
 use Rattle.std.specs.Prelude.{nat_lt}
 use Rattle.std.proofs.lemmas.List.Elements.{recursion_from_All}
 use Rattle.fx_designs.specs.Galois.{IsField}
 use Rattle.fx_designs.specs.Vectors.{IsVector, weight, combination}
 use Rattle.fx_designs.specs.Runs.{points}
-use Rattle.fx_designs.specs.Spans.{in_span}
 use Rattle.fx_laws.specs.Changes.{IsChange}
 use Rattle.fx_laws.specs.Scalings.{AreScalars, scaled}
 use Rattle.fx_laws.specs.Reorders.{swapped, reordered}
@@ -28,8 +27,7 @@ module _ (x : Strata) (f : IsField x.q) (base : List (List ℕ)) where
       let effects : (v : List ℕ) → effects_at x.q x.m xs v ≡ effects_at x.q x.m ys v = λ v.
       effects-total x.q x.m f xs v ∙ h (near x.q x.m f v) ∙ sym (effects-total x.q x.m f ys v) in
       sum_by-ext _ _ (points x.q (length xs))
-      (λ u. ap (λ (n : ℕ). cond {A = ℕ} ((in_span x.q x.m base (combination x.q x.m u xs) || nat_lt 1 n)
-      && eqb (weight u) 2) 1 0) (effects (combination x.q x.m u xs)))
+      (λ u. cc (effects (combination x.q x.m u xs)))
       ∙ h (counted x.q x.m f (is_unclear_sum x base ys) 2)
 
   swapped-vectors : (k : ℕ) (rows : List (List ℕ)) → AreVectors x.q x.m rows → AreVectors x.q x.m (swapped k rows)
@@ -49,18 +47,19 @@ module _ (x : Strata) (f : IsField x.q) (base : List (List ℕ)) where
         → unclear_of x (map a base) (map a factors) ≡ unclear_of x base factors
     unfolding words_in
     by-change a change =
-        unclear-are-sums x f (map a base) (map a factors) (map-vectors x.q x.m f a change base hb)
-        (map-vectors x.q x.m f a change factors hf)
-        ∙ total-changed x.q x.m f (counted x.q x.m f (is_unclear_sum x (map a base) (map a factors)) 2)
-        a change factors hf
-        ∙ total-same x.q x.m f (counted x.q x.m f (is_unclear_sum x base factors) 2)
-        (λ j v. counted x.q x.m f (is_unclear_sum x (map a base) (map a factors)) 2 j (a v)) factors factors refl
-        (λ u hu.
-        let v : List ℕ = combination x.q x.m u factors in
-        let hv : IsVector x.q x.m v = combination-vector x.q x.m f u factors hf in
-        ap₂ (λ i (n : ℕ). cond {A = ℕ} ((i || nat_lt 1 n) && eqb (weight u) 2) 1 0)
-        (in_span-change x.q x.m f a change base v hb hv) (effects-changed x.q x.m f a change v hv factors hf))
-        ∙ sym (unclear-are-sums x f base factors hb hf)
+        cc (
+          unclear-are-sums x f (map a base) (map a factors) (map-vectors x.q x.m f a change base hb)
+              (map-vectors x.q x.m f a change factors hf),
+          total-changed x.q x.m f (counted x.q x.m f (is_unclear_sum x (map a base) (map a factors)) 2) a change
+              factors hf,
+          total-same x.q x.m f (counted x.q x.m f (is_unclear_sum x base factors) 2)
+              (λ j v. counted x.q x.m f (is_unclear_sum x (map a base) (map a factors)) 2 j (a v)) factors factors refl
+              (λ u hu. let v : List ℕ = combination x.q x.m u factors in let hv : IsVector x.q x.m
+              v = combination-vector
+              x.q x.m f u factors hf in ap₂ (λ i (n : ℕ). cond {A = ℕ} ((i || nat_lt 1 n) && eqb (weight u) 2) 1 0)
+              (in_span-change x.q x.m f a change base v hb hv) (effects-changed x.q x.m f a change v hv factors hf)),
+          unclear-are-sums x f base factors hb hf,
+        )
 
     by-order : (ks : List ℕ) → unclear_of x base (reordered ks factors) ≡ unclear_of x base factors
     by-order ks =

@@ -10,7 +10,6 @@ use Rattle.fx_designs.specs.Galois.{mul, inv, IsField, number}
 use Rattle.fx_designs.specs.Vectors.{IsVector, scale, minus, same, zeros, weight, combination}
 use Rattle.fx_designs.specs.Runs.{points, runs_of, is_constant, is_constant_in_blocks}
 use Rattle.fx_designs.specs.Aliases.{is_aliased}
-use Rattle.fx_designs.specs.Spans.{in_span}
 use Rattle.fx_laws.proofs.Space.{ext, AreVectors, zeros-vector, scale-vector, combination-vector}
 use Rattle.fx_laws.proofs.Linear.{dot-scale}
 use Rattle.fx_laws.proofs.Separation.{one-mul}
@@ -38,7 +37,7 @@ module _ (x : Strata) (f : IsField x.q) (base factors : List (List ℕ)) (hb : A
 
   multiple-sum : (c : ℕ) → sum-of (scale x.q c u) ≡ scale x.q c (sum-of u)
   multiple-sum c =
-      let hs : IsVector x.q x.m (sum-of u) = combination-vector x.q x.m f u factors hf in
+      let hs = combination-vector x.q x.m f u factors hf in
       ext x.q x.m f (sum-of (scale x.q c u)) (scale x.q c (sum-of u))
       (combination-vector x.q x.m f (scale x.q c u) factors hf) (scale-vector x.q x.m f c (sum-of u) hs)
       (λ p. scale-combination x.q x.m f c u factors p ∙ sym (dot-scale x.q f c (sum-of u) p))
@@ -46,7 +45,7 @@ module _ (x : Strata) (f : IsField x.q) (base factors : List (List ℕ)) (hb : A
   -- the sum of u is not zero
   some-sum : sum-of u ≡ zeros x.m → ⊥
   some-sum z =
-      let inside : in_span x.q x.m base (sum-of u) ≡ true =
+      let inside =
       in_span-holds x.q x.m f base (sum-of u) (record {
         by = zeros (length base);
         vector = zeros-vector x.q (length base) f;
@@ -63,9 +62,8 @@ module _ (x : Strata) (f : IsField x.q) (base factors : List (List ℕ)) (hb : A
       let rest : scale x.q c v ≡ v = cc e in
       elim (cases_eq a 0) [
         | inr ne ↦
-            let one : mul x.q a (inv x.q a) ≡ 1 = f.mul_inv a (omega arith) codes.0 in
-            inl (ap (mul x.q c) (sym one) ∙ sym (f.mul_assoc c a (inv x.q a))
-            ∙ ap (λ z. mul x.q z (inv x.q a)) head ∙ one)
+            let one = f.mul_inv a (omega arith) codes.0 in
+            inl (cc (f.mul_assoc c a (inv x.q a)))
         | inl none ↦ elim (factor-one c v codes.1 rest) [
           | inl y ↦ inl y
           | inr y ↦ inr (none, y)
@@ -75,10 +73,8 @@ module _ (x : Strata) (f : IsField x.q) (base factors : List (List ℕ)) (hb : A
   kept : (c : ℕ) (v : List ℕ) → AllByRecursion (λ a. a < x.q) v → mul x.q c 1 ≡ 1 → scale x.q c v ≡ v
   kept c [] codes one = refl
   kept c (a ∷ v) codes one =
-      let first : mul x.q 1 a ≡ a = one-mul x.q f a codes.0 in
-      ap₂ (λ b l. b ∷ l)
-      (ap (mul x.q c) (sym first) ∙ sym (f.mul_assoc c 1 a) ∙ ap (λ z. mul x.q z a) one ∙ first)
-      (kept c v codes.1 one)
+      let first = one-mul x.q f a codes.0 in
+      cc (f.mul_assoc c 1 a, kept c v codes.1 one)
 
   no-entries : (v : List ℕ) → AllByRecursion (λ a. a ≡ 0) v → v ≡ zeros (length v)
   no-entries [] h = refl
@@ -88,25 +84,27 @@ module _ (x : Strata) (f : IsField x.q) (base factors : List (List ℕ)) (hb : A
       → (is_constant x.q (minus x.q u v) (runs_of x.q x.m factors) && is_effect (weight v)) ≡ true → v ≡ u
   unfolding is_aliased
   equal v hv pv =
-      let n : ℕ = length factors in
-      let runs : List (List ℕ) = runs_of x.q x.m factors in
+      let n = length factors in
+      let runs = runs_of x.q x.m factors in
       let p = and_parts (is_constant x.q (minus x.q u v) runs) (is_effect (weight v)) pv in
       let test : ℕ → Bool = λ c. is_constant x.q (minus x.q u (scale x.q c v)) runs in
       let first : test 1 ≡ true =
-      subst (λ z. is_constant x.q (minus x.q u z) runs ≡ true) (sym (scale-one x.q n f v hv)) p.0 in
+      rw (scale-one x.q n f v hv) p.0 in
       let aliased : list_any test (range_with_len 1 (x.q - 1)) ≡ true =
       subst (λ k. list_any test (range_with_len 1 k) ≡ true)
-      (let e : suc (x.q - 2) ≡ x.q - 1 = omega (arith, f.more_than_one) in e)
+      (let e : suc (x.q - 2) ≡ x.q - 1 = omega arith in e)
       (or_left (test 1) (list_any test (range_with_len (1 + 1) (x.q - 2))) first) in
       let r = h.alone v hv p.1 aliased in
-      let su : IsVector x.q x.m (sum-of u) = combination-vector x.q x.m f u factors hf in
-      let sv : IsVector x.q x.m (sum-of v) = combination-vector x.q x.m f v factors hf in
+      let su = combination-vector x.q x.m f u factors hf in
+      let sv = combination-vector x.q x.m f v factors hf in
       let numbers : eqb (number x.q (sum-of v)) (number x.q (sum-of u)) ≡ true =
-      sym (no-difference x.q x.m f u v factors hf)
-      ∙ sym (over-all x.q x.m f factors base hf hb (minus x.q u v) (minus-vector x f base factors hb hf u v hu hv))
-      ∙ p.0 in
-      let sums : sum-of v ≡ sum-of u = number-same x.q x.m f (sum-of v) (sum-of u) sv su (eqb-true _ _ numbers) in
-      let keeps : scale x.q r.0 (sum-of u) ≡ sum-of u = sym (multiple-sum r.0) ∙ ap sum-of (sym r.1) ∙ sums in
+      cc (
+        no-difference x.q x.m f u v factors hf,
+        over-all x.q x.m f factors base hf hb (minus x.q u v) (minus-vector x f base factors hb hf u v hu hv),
+        p.0,
+      ) in
+      let sums = number-same x.q x.m f (sum-of v) (sum-of u) sv su (eqb-true _ _ numbers) in
+      let keeps : scale x.q r.0 (sum-of u) ≡ sum-of u = cc (multiple-sum r.0, r.1) in
       elim (factor-one r.0 (sum-of u) su.codes keeps) [
         | inl one ↦ r.1 ∙ kept r.0 u hu.codes one
         | inr none ↦ absurd (some-sum (no-entries (sum-of u) none ∙ ap zeros su.len))
@@ -124,7 +122,7 @@ module _ (x : Strata) (f : IsField x.q) (base factors : List (List ℕ)) (u : Li
   runs = runs_of x.q x.m factors
 
   some : 0 < x.q
-  some = omega (arith, f.more_than_one)
+  some = omega arith
 
   abbrev P : List ℕ → Bool
   P v = is_constant x.q (minus x.q u v) runs && is_effect (weight v)
@@ -140,18 +138,18 @@ module _ (x : Strata) (f : IsField x.q) (base factors : List (List ℕ)) (u : Li
   two-counted : (v : List ℕ) → IsVector x.q (length factors) v → P u ≡ true → P v ≡ true → (u ≡ v → ⊥)
       → 2 ≤ effects_of x factors u
   two-counted v hv pu pv apart =
-      let a : ℕ = sum_by (λ w. cond {A = ℕ} (same u w) 1 0) ps in
-      let b : ℕ = sum_by (λ w. cond {A = ℕ} (same v w) 1 0) ps in
-      let e1 : a ≡ 1 = once x.q x.m f n u hu in
-      let e2 : b ≡ 1 = once x.q x.m f n v hv in
-      let both : sum_by (λ w. cond {A = ℕ} (same u w) 1 0 + cond {A = ℕ} (same v w) 1 0) ps ≡ a + b =
+      let a = sum_by (λ w. cond {A = ℕ} (same u w) 1 0) ps in
+      let b = sum_by (λ w. cond {A = ℕ} (same v w) 1 0) ps in
+      let e1 = once x.q x.m f n u hu in
+      let e2 = once x.q x.m f n v hv in
+      let both =
       sum_by-plus (λ w. cond {A = ℕ} (same u w) 1 0) (λ w. cond {A = ℕ} (same v w) 1 0) ps in
-      let less : sum_by (λ w. cond {A = ℕ} (same u w) 1 0 + cond {A = ℕ} (same v w) 1 0) ps ≤ effects_of x factors u =
+      let less =
       sum_by-le (λ w. cond {A = ℕ} (same u w) 1 0 + cond {A = ℕ} (same v w) 1 0) (λ w. cond {A = ℕ} (P w) 1 0) ps
       (recursion_from_All _ ps (all-points x.q n some
       (λ w. cond {A = ℕ} (same u w) 1 0 + cond {A = ℕ} (same v w) 1 0 ≤ cond {A = ℕ} (P w) 1 0)
       (λ w hw. bits-less (same u w) (same v w) (P w)
-      (λ e. subst (λ z. P z ≡ true) (same-true u w e) pu) (λ e. subst (λ z. P z ≡ true) (same-true v w e) pv)
+      (λ e. rw (← (same-true u w e)) pu) (λ e. rw (same-true v w e) at pv)
       (λ e k. apart (same-true u w e ∙ sym (same-true v w k)))))) in
       omega arith
 
@@ -188,7 +186,7 @@ module _ (x : Strata) (f : IsField x.q) (base factors : List (List ℕ)) (u : Li
     unfolding is_aliased
     to-alone h =
         let p = or-parts inside (nat_lt 1 (effects_of x factors u)) h in
-        let few : effects_of x factors u ≤ 1 = not-more (effects_of x factors u) p.1 in
+        let few = not-more (effects_of x factors u) p.1 in
         record {
           varies = p.0;
           alone = λ v hv effect aliased.

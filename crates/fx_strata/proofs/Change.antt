@@ -1,5 +1,5 @@
 -- A change of the run indexes that takes some rows to the unit vectors is invertible.
-use Rattle.std.proofs.Common.{ℕ, ◌≡◌, ◌<◌, ◌≤◌, ◌+◌, zero, suc, true, false, cond, List, [], ◌∷◌, ◌++◌, map, length}
+use Rattle.std.proofs.Common.{ℕ, ◌≡◌, ◌<◌, ◌≤◌, ◌+◌, zero, suc, true, cond, List, [], ◌∷◌, ◌++◌, map, length}
 use Rattle.std.proofs.Common.{refl, sym, subst, ◌∙◌, ap, ap₂, arith, inl, inr}
 use Rattle.std.proofs.lemmas.Bool.{cases_Bool}
 use Rattle.std.proofs.lemmas.List.{length-map, map-append}
@@ -18,7 +18,7 @@ use Rattle.fx_laws.proofs.Raises.{none-combination}
 use Rattle.fx_laws.proofs.Forms.{rank-snoc}
 use Rattle.fx_laws.proofs.Reorders.{units_from}
 use Rattle.fx_base.proofs.Lists.{each-append}
-use Rattle.fx_strata.proofs.Falls.{formed-room}
+use Rattle.fx_laws.proofs.Falling.{formed-room}
 
 -- what the levels of a combination of rows are
 pub combination-levels : (q : ℕ) (f : IsField q) (m : ℕ) (a : List (List ℕ)) (u : List ℕ) (rows : List (List ℕ))
@@ -37,11 +37,11 @@ combination-levels q f m a (c ∷ u) (r ∷ rows) =
 pub rank-most : (q m : ℕ) (f : IsField q) (rows : List (List ℕ)) → AreVectors q m rows → rank_of q m rows ≤ m
 rank-most q m f rows h =
     let made = to_form q m f rows h in
-    let same : rank_of q m (map made.0 rows) ≡ rank_of q m rows = rank-change q m f made.0 made.1.change [] rows tt h in
-    let is : rank_of q m (map made.0 rows) + 0 ≡ made.1.rank =
+    let same = rank-change q m f made.0 made.1.change [] rows tt h in
+    let is =
     rank-formed q m f 0 made.1.rank [] (map made.0 rows) (map-vectors q m f made.0 made.1.change rows h)
     (spans-none q m f) made.1.formed in
-    let low : made.1.rank ≤ m = formed-room m 0 made.1.rank (map made.0 rows) made.1.formed (omega arith) in
+    let low = formed-room m 0 made.1.rank (map made.0 rows) made.1.formed (omega arith) in
     omega arith
 
 -- the sum of the unit vectors, each times an entry
@@ -50,8 +50,8 @@ unit-onto : (q m k a : ℕ) (f : IsField q) (v : List ℕ) → a < q → k < m �
 unit-onto q zero k a f v low room h = absurd (omega arith)
 unit-onto q (suc m) zero a f v low room h =
     let hv : IsVector q m v = record { len = (let e = h.len in omega arith); codes = h.codes.1 } in
-    let first : add q (mul q a 1) 0 ≡ a = ap (λ x. add q x 0) (f.mul_one a low) ∙ f.add_zero a low in
-    let none : scale q a (zeros m) ≡ zeros m = scaled-zeros m in
+    let first : add q (mul q a 1) 0 ≡ a = cc (f.mul_one a low, f.add_zero a low) in
+    let none = scaled-zeros m in
     rw (first, none, zeros-plus q m f v hv) refl
   where
     scaled-zeros : (n : ℕ) → scale q a (zeros n) ≡ zeros n
@@ -59,8 +59,7 @@ unit-onto q (suc m) zero a f v low room h =
     scaled-zeros (suc n) = rw (f.mul_zero a, scaled-zeros n) refl
 unit-onto q (suc m) (suc k) a f v low room h =
     let hv : IsVector q m (zeros (suc k) ++ v) = record { len = (let e = h.len in omega arith); codes = h.codes.1 } in
-    let first : add q (mul q a 0) 0 ≡ 0 = ap (λ x. add q x 0) (f.mul_zero a)
-    ∙ f.add_zero 0 (omega (arith, f.more_than_one)) in
+    let first : add q (mul q a 0) 0 ≡ 0 = cc (f.mul_zero a, f.add_zero 0 (omega (arith, f.more_than_one))) in
     ap₂ (λ x y. x ∷ y) first (unit-onto q m k a f v low (omega arith) hv)
 
 zeros-on : (q m k : ℕ) (f : IsField q) (v : List ℕ) → IsVector q m v → IsVector q (k + m) (zeros k ++ v)
@@ -71,7 +70,7 @@ zeros-on q m (suc k) f v h =
 
 no-more : (n : ℕ) → zeros n ≡ zeros n ++ []
 no-more zero = refl
-no-more (suc n) = ap (λ z. 0 ∷ z) (no-more n)
+no-more (suc n) = cc (no-more n)
 
 pub combination-units : (q m k j : ℕ) (f : IsField q) (v : List ℕ) → k + j ≡ m → IsVector q j v
     → combination q m v (units_from m k j) ≡ zeros k ++ v
@@ -83,19 +82,17 @@ combination-units q m k (suc j) f (a ∷ v) e h =
     let full : IsVector q m (zeros (suc k) ++ v) =
     subst (λ n. IsVector q n (zeros (suc k) ++ v)) (let e' : suc k + j ≡ m = omega arith in e')
     (zeros-on q j (suc k) f v hv) in
-    ap (plus q (scale q a (unit m k))) (combination-units q m (suc k) j f v (omega arith) hv)
-    ∙ unit-onto q m k a f v h.codes.0 (omega arith) full
+    cc (combination-units q m (suc k) j f v (omega arith) hv, unit-onto q m k a f v h.codes.0 (omega arith) full)
 
 module _ (q m : ℕ) (f : IsField q) (rows : List (List ℕ)) (len : length rows ≡ m) where
   abbrev pub by : List ℕ → List ℕ
   by v = levels_at q rows v
 
   pub by-vector : (v : List ℕ) → IsVector q m (by v)
-  by-vector v = subst (λ n. IsVector q n (by v)) len (levels-vector q f rows v)
+  by-vector v = rw len at (levels-vector q f rows v)
 
   pub by-combination : (u : List ℕ) (ws : List (List ℕ)) → combination q m u (map by ws) ≡ by (combination q m u ws)
-  by-combination u ws = subst (λ n. combination q n u (map by ws) ≡ by (combination q m u ws)) len
-      (combination-levels q f m rows u ws)
+  by-combination u ws = rw len at (combination-levels q f m rows u ws)
 
   -- what is taken to unit vectors is independent
   pub rank-lifted : (k j : ℕ) (bs ws : List (List ℕ)) → k + j ≤ m → AreVectors q m bs → AreVectors q m ws
@@ -107,11 +104,11 @@ module _ (q m : ℕ) (f : IsField q) (rows : List (List ℕ)) (len : length rows
       let first : by w ≡ unit m k = cc is in
       let rest : map by ws ≡ units_from m (suc k) j = cc is in
       let room : k < m = omega arith in
-      let out : in_span q m bs w ≡ false = in_span-none q m f bs w hb hw.0 (λ s.
+      let out = in_span-none q m f bs w hb hw.0 (λ s.
       unit-long m k room (subst (IsShort k) first (spans-short q m f k (map by bs) (by w) h
       (record {
         by = s.by;
-        vector = subst (λ n. IsVector q n s.by) (sym (length-map bs by)) s.vector;
+        vector = rw (length-map bs by) s.vector;
         gives =
             by-combination s.by bs ∙ ap by s.gives;
       })))) in
@@ -125,25 +122,25 @@ module _ (q m : ℕ) (f : IsField q) (rows : List (List ℕ)) (len : length rows
   module _ (ws : List (List ℕ)) (hw : AreVectors q m ws) (is : map by ws ≡ units_from m 0 m) where
     alone : (u : List ℕ) → IsVector q m u → by u ≡ zeros m → u ≡ zeros m
     alone u hu none =
-        let rank : rank_of q m ws ≡ m = rank-lifted 0 m [] ws (omega arith) tt hw (spans-none q m f) is in
-        let most : rank_of q m (ws ++ u ∷ []) ≤ m =
+        let rank = rank-lifted 0 m [] ws (omega arith) tt hw (spans-none q m f) is in
+        let most =
         rank-most q m f (ws ++ u ∷ []) (each-append (λ r. IsVector q m r) ws (u ∷ []) hw (hu, tt)) in
-        let more : rank_of q m (ws ++ u ∷ []) ≡ rank_of q m ws + cond {A = ℕ} (in_span q m ws u) 0 1 =
+        let more =
         rank-snoc q m f [] ws u in
         let inside : in_span q m ws u ≡ true =
         elim (cases_Bool (in_span q m ws u)) [
           | inl t ↦ t
           | inr out ↦ absurd
               (let one : cond {A = ℕ} (in_span q m ws u) 0 1 ≡ 1 =
-              ap (λ b. cond {A = ℕ} b 0 1) out in omega (arith, one, more, most, rank))
+              cc in omega arith)
         ] in
         let s = in_span-true q m f ws u hw hu inside in
         let count : length ws ≡ m = sym (length-map ws by) ∙ ap (λ (l : List (List ℕ)). length l) is ∙ many 0 m in
         let none' : combination q m s.by (units_from m 0 m) ≡ zeros m = ap (combination q m s.by) (sym is)
         ∙ by-combination s.by ws ∙ ap by s.gives ∙ none in
         let zero_by : s.by ≡ zeros m = sym
-        (combination-units q m 0 m f s.by (omega arith) (subst (λ n. IsVector q n s.by) count s.vector)) ∙ none' in
-        sym s.gives ∙ ap (λ v. combination q m v ws) zero_by ∙ none-combination q m f m ws hw
+        (combination-units q m 0 m f s.by (omega arith) (rw count at s.vector)) ∙ none' in
+        cc (s.gives, none-combination q m f m ws hw)
       where
         many : (k j : ℕ) → length (units_from m k j) ≡ j
         many k zero = refl

@@ -1,6 +1,6 @@
 -- With more rows no word of two factors becomes clear.
-use Rattle.std.proofs.Common.{ℕ, ◌≡◌, ◌<◌, ◌≤◌, Bool, true, eqb, List, ◌++◌, length, sym, ◌∙◌}
-use Rattle.std.proofs.Common.{ap, arith, inl, inr, le_trans}
+use Rattle.std.proofs.Common.{ℕ, ◌≡◌, ◌<◌, ◌≤◌, true, eqb, List, ◌++◌, length}
+use Rattle.std.proofs.Common.{arith, inl, inr, le_trans}
 use Rattle.std.specs.Prelude.{nat_lt}
 use Rattle.std.proofs.lemmas.Bool.{or_cases, or_left, or_right, lt-ltb, ltb-true}
 use Rattle.std.proofs.lemmas.List.{map-append}
@@ -24,11 +24,11 @@ module _ (x : Strata) (f : IsField x.q) where
   pub total-longer : (g : ℕ → List ℕ → ℕ) (c s : List ℕ)
       → total x.q x.m f g (vectors_of x.q x.m c) ≤ total x.q x.m f g (vectors_of x.q x.m (c ++ s))
   total-longer g c s =
-      let vc : List (List ℕ) = vectors_of x.q x.m c in
-      let vs : List (List ℕ) = vectors_of x.q x.m s in
+      let vc = vectors_of x.q x.m c in
+      let vs = vectors_of x.q x.m s in
       let more = total-more x.q x.m f g vs vc (rows-vectors x.q x.m f s) (rows-vectors x.q x.m f c) in
       let last : total x.q x.m f g (vs ++ vc) ≡ total x.q x.m f g (vectors_of x.q x.m (c ++ s)) =
-      total-turned x.q x.m f g vs vc ∙ ap (total x.q x.m f g) (sym (map-append (λ r. digits x.q x.m r) c s)) in
+      cc (total-turned x.q x.m f g vs vc, map-append (λ r. digits x.q x.m r) c s) in
       omega arith
 
   -- of a greater value there is no less
@@ -39,7 +39,7 @@ module _ (x : Strata) (f : IsField x.q) where
   total-less g h zs less =
       sum_by-le (λ u. g (weight u) (combination x.q x.m u zs)) (λ u. h (weight u) (combination x.q x.m u zs))
       (points x.q (length zs))
-      (recursion_from_All _ (points x.q (length zs)) (all-points x.q (length zs) (omega (arith, f.more_than_one))
+      (recursion_from_All _ (points x.q (length zs)) (all-points x.q (length zs) (omega arith)
       (λ u. g (weight u) (combination x.q x.m u zs) ≤ h (weight u) (combination x.q x.m u zs)) less))
 
   pub effects-longer : (c s v : List ℕ)
@@ -56,7 +56,7 @@ module _ (x : Strata) (f : IsField x.q) where
       (nat_lt 1 (effects_at x.q x.m (vectors_of x.q x.m c) v)) t) [
         | inl i ↦ or_left _ _ i
         | inr l ↦
-            let more : 1 < effects_at x.q x.m (vectors_of x.q x.m c) v = ltb-true _ _ l in
+            let more = ltb-true _ _ l in
             let up = effects-longer c s v in
             let few : 1 < effects_at x.q x.m (vectors_of x.q x.m (c ++ s)) v = omega arith in
             or_right _ _ (lt-ltb _ _ few)
@@ -65,8 +65,8 @@ module _ (x : Strata) (f : IsField x.q) where
   pub unclear-more : (c s : List ℕ) → unclear x c ≤ unclear x (c ++ s)
   unfolding words_in
   unclear-more c s =
-      let old : List ℕ → Bool = is_unclear_sum x (base x) (vectors_of x.q x.m c) in
-      let new : List ℕ → Bool = is_unclear_sum x (base x) (vectors_of x.q x.m (c ++ s)) in
+      let old = is_unclear_sum x (base x) (vectors_of x.q x.m c) in
+      let new = is_unclear_sum x (base x) (vectors_of x.q x.m (c ++ s)) in
       le_trans
       (total-less (counted x.q x.m f old 2) (counted x.q x.m f new 2) (vectors_of x.q x.m c)
       (λ u hu. one-less (old (combination x.q x.m u (vectors_of x.q x.m c)))

@@ -1,6 +1,6 @@
 -- Each design below a prefix with an earlier image has one before it with as many words of each kind.
 use Rattle.std.proofs.Common.{ℕ, ◌≡◌, ◌<◌, ◌≤◌, ◌+◌, ◌-◌, ◌^◌, zero, suc, Bool, true, false, not, eqb, ◌&&◌, List}
-use Rattle.std.proofs.Common.{[], ◌∷◌, ◌++◌, map, length, take, drop, refl, sym, subst, ◌∙◌, ap, ap₂, arith, inl, inr}
+use Rattle.std.proofs.Common.{[], ◌∷◌, ◌++◌, map, length, take, drop, refl, sym, subst, arith, inl, inr}
 use Rattle.std.proofs.Common.{◌⊎◌}
 use Rattle.std.proofs.Common.{eqb-true, eq-eqb, append-nil, take-append-drop, length-append}
 use Rattle.std.specs.Prelude.{nat_le}
@@ -11,7 +11,7 @@ use Rattle.std.proofs.lemmas.Bool.Decides.{nat_tests}
 use Rattle.std.proofs.lemmas.List.{map-append, length-map, length-take, take-append-le}
 use Rattle.std.proofs.lemmas.List.Elements.{filter-append}
 use Rattle.fx_base.proofs.Lists.{each-append, each-append_parts, each-map, each-weaker}
-use Rattle.fx_designs.specs.Galois.{IsField, number, digits}
+use Rattle.fx_designs.specs.Galois.{IsField, digits}
 use Rattle.fx_designs.specs.Vectors.{IsVector, vectors_of, is_normal}
 use Rattle.fx_designs.specs.Spans.{in_span}
 use Rattle.fx_designs.specs.Problems.{Dimensions}
@@ -28,7 +28,6 @@ use Rattle.fx_strata.proofs.Lists.{IsUnder, under-same, under-order, stands_befo
 use Rattle.fx_strata.proofs.Exchanges.{member-left, numbers}
 use Rattle.fx_strata.specs.Designs.{Strata}
 use Rattle.fx_strata.specs.Words.{words_in}
-use Rattle.fx_strata.specs.Sums.{sums_of, unclear_sums}
 use Rattle.fx_strata.specs.Canonical.{dimensions_of, units, base, words, unclear, AreLater, IsStage, IsDesign}
 use Rattle.fx_strata.specs.Images.{in_order, first_in_order, second_in_order, moved_rows, image, first_known}
 use Rattle.fx_strata.specs.Images.{second_known, brings, is_exchange, has_earlier_image}
@@ -42,7 +41,7 @@ use Rattle.fx_strata.proofs.Keeping.{by, brought, is-change, keeps}
 pub front-more : (w : ℕ) (c s : List ℕ) → (r : List ℕ) × (take w (c ++ s) ≡ take w c ++ r)
 front-more zero c s = ([], refl)
 front-more (suc w) [] s = (take (suc w) s, refl)
-front-more (suc w) (r ∷ c) s = (let e = front-more w c s in (e.0, ap (λ z. r ∷ z) e.1))
+front-more (suc w) (r ∷ c) s = (let e = front-more w c s in (e.0, cc e.1))
 
 pub behind-more : (w : ℕ) (c s : List ℕ) → (r : List ℕ) × (drop w (c ++ s) ≡ drop w c ++ r)
 behind-more zero c s = (s, refl)
@@ -64,9 +63,9 @@ from-parts : (g : ℕ → ℕ) (y : ℕ) (as' os rest more rows : List ℕ) → 
     → IsMember y (map g (as' ++ os)) → IsMember y (map g rows)
 from-parts g y as' os rest more rows e e' h =
     elim (member-split y (map g as') (map g os) (subst (IsMember y) (map-append g as' os) h)) [
-      | inl a ↦ subst (IsMember y) (sym (ap (map g) e ∙ map-append g as' rest))
+      | inl a ↦ subst (IsMember y) (sym (cc (map-append g as' rest)))
           (member-left y (map g as') (map g rest) a)
-      | inr b ↦ subst (IsMember y) (sym (ap (map g) e' ∙ map-append g os more))
+      | inr b ↦ subst (IsMember y) (sym (cc (map-append g os more)))
           (member-left y (map g os) (map g more) b)
     ]
 
@@ -74,7 +73,7 @@ falling-below : (n : ℕ) → AllByRecursion (λ r. r < n) (falling n)
 falling-below zero = tt
 falling-below (suc n) = (
   omega arith,
-  each-weaker (λ r. r < n) (λ r. r < suc n) (falling n) (λ r h. omega (arith, h)) (falling-below n),
+  each-weaker (λ r. r < n) (λ r. r < suc n) (falling n) (λ r h. omega arith) (falling-below n),
 )
 
 module _ (d : Dimensions) (f : IsField d.q) where
@@ -89,7 +88,7 @@ module _ (d : Dimensions) (f : IsField d.q) where
   later-range from len bound (r ∷ rows) h l =
       let p = and_parts (is_normal (digits d.q d.m r)) (not (is_unit d r) && nat_le (d.q ^ from) r) l.0 in
       let p' = and_parts (not (is_unit d r)) (nat_le (d.q ^ from) r) p.1 in
-      let under : r < bound = l.1 in (
+      let under = l.1 in (
         record {
           low = (let t = p'.1 in grind (arith, nat_tests, t));
           high = omega arith;
@@ -104,7 +103,7 @@ module _ (d : Dimensions) (f : IsField d.q) where
       (each-append (λ r. InRange from len r) (units d.q from len) s.others
       (each-map (λ r. InRange from len r) (λ i. d.q ^ i) (range_with_len from len)
       (each-range (λ i. InRange from len (d.q ^ i)) from len (λ i low high. record {
-        low = pow-le-pow_right (omega (arith, f.more_than_one)) low;
+        low = pow-le-pow_right (omega arith) low;
         high = pow-less d f i (from + len) high;
       })))
       (later-range from len (d.q ^ (from + len)) s.others (omega arith) s.later))
@@ -115,10 +114,10 @@ pub shorts : (x : Strata) (f : IsField x.q) → x.h ≤ x.m → (rs : List ℕ)
     → AllByRecursion (λ v. IsShort x.h v) (vectors_of x.q x.m rs)
 shorts x f room [] h = tt
 shorts x f room (r ∷ rs) h =
-    let some : 0 < x.q = omega (arith, f.more_than_one) in
+    let some : 0 < x.q = omega arith in
     let below : r < x.q ^ x.h = subst (λ n. r < x.q ^ n) (let e : 0 + x.h ≡ x.h = omega arith in e) h.0.high in
-    let wide : x.q ^ x.h ≤ x.q ^ x.m = pow-le-pow_right some room in
-    let is : number x.q (digits x.q x.m r) ≡ r = number-digits x.q x.m r some (omega arith) in
+    let wide = pow-le-pow_right some room in
+    let is = number-digits x.q x.m r some (omega arith) in
     (number-short x.q x.m x.h f (digits x.q x.m r) (digits-vector x.q x.m r some) (omega arith), shorts x f room rs h.1)
 
 module _ (x : Strata) (f : IsField x.q) where
@@ -128,15 +127,12 @@ module _ (x : Strata) (f : IsField x.q) where
   under-in-order from len xs ys =
       let p : ℕ → Bool = λ r. not (is_unit (dimensions_of x) r) in
       under-same (units x.q from len) (falling_order (filter p xs)) (falling_order (filter p (xs ++ ys)))
-      (subst (λ l. IsUnder (falling_order (filter p xs)) (falling_order l)) (sym (filter-append p xs ys))
-      (under-order (filter p xs) (filter p ys)))
+      (rw (filter-append p xs ys) (under-order (filter p xs) (filter p ys)))
 
   under-first : (xs ys : List ℕ) → IsUnder (first_in_order x xs) (first_in_order x (xs ++ ys))
   under-first xs ys = elim (cases_Bool (eqb x.w 0)) [
-    | inl t ↦ subst (λ l. IsUnder l (first_in_order x (xs ++ ys)))
-        (sym (cond-true (eqb x.w 0) [] (in_order (dimensions_of x) 0 x.h xs) t)) tt
-    | inr o ↦ subst (λ l. IsUnder l (first_in_order x (xs ++ ys)))
-        (sym (cond-false (eqb x.w 0) [] (in_order (dimensions_of x) 0 x.h xs) o))
+    | inl t ↦ rw (cond-true (eqb x.w 0) [] (in_order (dimensions_of x) 0 x.h xs) t) tt
+    | inr o ↦ rw (cond-false (eqb x.w 0) [] (in_order (dimensions_of x) 0 x.h xs) o)
         (subst (IsUnder (in_order (dimensions_of x) 0 x.h xs))
         (sym (cond-false (eqb x.w 0) [] (in_order (dimensions_of x) 0 x.h (xs ++ ys)) o))
         (under-in-order 0 x.h xs ys))
@@ -154,19 +150,19 @@ module _ (x : Strata) (f : IsField x.q) where
     -- the image of the prefix is at no place greater
     under : IsUnder (image x change c) whole
     under =
-        let g : ℕ → ℕ = moved (dimensions_of x) change in
+        let g = moved (dimensions_of x) change in
         let one = front-more x.w c s in
         let two = behind-more x.w c s in
-        let first : List ℕ = first_in_order x (map g (take x.w c)) in
-        let second : List ℕ = second_in_order x (map g (drop x.w c)) in
-        let last : List ℕ = second_in_order x (map g (drop x.w rows)) in
+        let first = first_in_order x (map g (take x.w c)) in
+        let second = second_in_order x (map g (drop x.w c)) in
+        let last = second_in_order x (map g (drop x.w rows)) in
         elim (cases_Bool (nat_le (length c) x.w)) [
           | inl t ↦
               subst (λ l. IsUnder (first ++ l) whole) (sym (cond-true (nat_le (length c) x.w) [] second t))
               (subst (λ l. IsUnder l whole) (sym (append-nil first))
               (under-more first (first_in_order x (map g (take x.w rows))) last
               (subst (λ l. IsUnder first (first_in_order x l))
-              (sym (ap (map g) one.1 ∙ map-append g (take x.w c) one.0))
+              (sym (cc (one.1, map-append g (take x.w c) one.0)))
               (under-first (map g (take x.w c)) (map g one.0)))))
           | inr o ↦
               let long : x.w ≤ length c = grind (arith, nat_tests, o) in
@@ -175,7 +171,7 @@ module _ (x : Strata) (f : IsField x.q) where
               (sym (take-append-le x.w c s long))
               (under-same first second last
               (subst (λ l. IsUnder second (second_in_order x l))
-              (sym (ap (map g) two.1 ∙ map-append g (drop x.w c) two.0))
+              (sym (cc (two.1, map-append g (drop x.w c) two.0)))
               (under-in-order x.h (x.m - x.h) (map g (drop x.w c)) (map g two.0)))))
         ]
 
@@ -191,7 +187,7 @@ module _ (x : Strata) (f : IsField x.q) (c s change : List ℕ) (h : has_earlier
   b = drop x.w all
 
   some : 0 < x.q
-  some = omega (arith, f.more_than_one)
+  some = omega arith
 
   room : x.h ≤ x.m
   room = D.laid.base
@@ -282,20 +278,20 @@ module _ (x : Strata) (f : IsField x.q) (c s change : List ℕ) (h : has_earlier
       → AllByRecursion (λ v. in_span x.q x.m (base x) v ≡ true) (vectors_of x.q x.m rows)
   base-rows [] l = tt
   base-rows (r ∷ rows) l =
-      let v : List ℕ = digits x.q x.m r in
-      let hv : IsVector x.q x.m v = digits-vector x.q x.m r some in
-      let here : number x.q v ≡ r = number-digits x.q x.m r some (omega (arith, wide, l.0)) in
-      (base-in x f room v hv (number-short x.q x.m x.h f v hv (omega (arith, l.0))), base-rows rows l.1)
+      let v = digits x.q x.m r in
+      let hv = digits-vector x.q x.m r some in
+      let here = number-digits x.q x.m r some (omega (arith, wide)) in
+      (base-in x f room v hv (number-short x.q x.m x.h f v hv (omega arith)), base-rows rows l.1)
 
   other-rows : (rows : List ℕ) → AllByRecursion (λ r. InRange (dimensions_of x) f x.h (x.m - x.h) r) rows
       → AllByRecursion (λ v. in_span x.q x.m (base x) v ≡ false) (vectors_of x.q x.m rows)
   other-rows [] l = tt
   other-rows (r ∷ rows) l =
-      let v : List ℕ = digits x.q x.m r in
-      let hv : IsVector x.q x.m v = digits-vector x.q x.m r some in
+      let v = digits x.q x.m r in
+      let hv = digits-vector x.q x.m r some in
       let top : r < x.q ^ x.m =
       subst (λ n. r < x.q ^ n) (let e : x.h + (x.m - x.h) ≡ x.m = omega (arith, room) in e) l.0.high in
-      let here : number x.q v ≡ r = number-digits x.q x.m r some top in
+      let here = number-digits x.q x.m r some top in
       let low = l.0.low in (
         false_from_ne_true (in_span x.q x.m (base x) v)
             (λ t. let short = short-number x.q x.m x.h f v hv (in-base x f room v hv t) in omega arith),
@@ -316,9 +312,8 @@ module _ (x : Strata) (f : IsField x.q) (c s change : List ℕ) (h : has_earlier
           λ i low. subst (IsMember (x.q ^ i)) (sym (nums-are a))
               (let e = front-more x.w c s in
               from-parts g (x.q ^ i) (units x.q 0 x.h) (take x.w c) st.others e.0 a st.is e.1
-              (subst (λ l. IsMember (x.q ^ i) (map g l))
-              (cond-false (eqb x.w 0) (falling (x.q ^ x.h)) (units x.q 0 x.h ++ take x.w c) (ne_eqb x.w 0 ne))
-              (first-comes i low))),
+              (rw (cond-false (eqb x.w 0) (falling (x.q ^ x.h)) (units x.q 0 x.h ++ take x.w c)
+              (ne_eqb x.w 0 ne)) at (first-comes i low))),
         )
       ]
     ]
@@ -331,7 +326,7 @@ module _ (x : Strata) (f : IsField x.q) (c s change : List ℕ) (h : has_earlier
       (second-comes i low high))
 
   together : xs ++ ys ≡ vectors_of x.q x.m all
-  together = sym (map-append (λ r. digits x.q x.m r) a b) ∙ ap (vectors_of x.q x.m) (take-append-drop x.w all)
+  together = cc (map-append (λ r. digits x.q x.m r) a b, take-append-drop x.w all)
 
   free : IsFree x.q x.m f (xs ++ ys)
   unfolding words_in
@@ -346,8 +341,7 @@ module _ (x : Strata) (f : IsField x.q) (c s change : List ℕ) (h : has_earlier
       let e = length-map b (λ r. digits x.q x.m r) in
       let e1 = length-map a (λ r. digits x.q x.m r) in
       let e2 = D.laid.len in
-      let e3 : length a + length b ≡ length all = sym (length-append a b)
-      ∙ ap (λ (l : List ℕ). length l) (take-append-drop x.w all) in
+      let e3 : length a + length b ≡ length all = cc (length-append a b, take-append-drop x.w all) in
       let e4 = lx in
       omega arith
 
@@ -355,7 +349,7 @@ module _ (x : Strata) (f : IsField x.q) (c s change : List ℕ) (h : has_earlier
   other = whole x f change c s
 
   is : first_in_order x (nums x f room move turns xs) ++ second_in_order x (nums x f room move turns ys) ≡ other
-  is = ap₂ (λ l r. first_in_order x l ++ second_in_order x r) (nums-are a) (nums-are b)
+  is = cc (nums-are a, nums-are b)
 
   outside : AllByRecursion (λ v. in_span x.q x.m (base x) v ≡ false) ys
   outside = other-rows b (stage-range (dimensions_of x) f x.h (x.m - x.h) b D.laid.second)
@@ -367,15 +361,19 @@ module _ (x : Strata) (f : IsField x.q) (c s change : List ℕ) (h : has_earlier
         (rows-vectors x.q x.m f b) free inside outside come);
     earlier = stands_before c s (image x change c) other h2.1 (under x f change c s);
     words = λ confounded k.
-        ap (λ l. words x l confounded k) (sym is)
-        ∙ words-kept x f room move turns (base x) kept xs ys lx ly (rows-vectors x.q x.m f a)
-        (rows-vectors x.q x.m f b) free inside outside come confounded k
-        ∙ ap (λ l. sums_of x (base x) l confounded k) together;
+        cc (
+          is,
+          words-kept x f room move turns (base x) kept xs ys lx ly (rows-vectors x.q x.m f a)
+              (rows-vectors x.q x.m f b) free inside outside come confounded k,
+          together,
+        );
     unclear =
-        ap (unclear x) (sym is)
-        ∙ unclear-kept x f room move turns (base x) kept xs ys lx ly (rows-vectors x.q x.m f a)
-        (rows-vectors x.q x.m f b) free inside outside come
-        ∙ ap (unclear_sums x (base x)) together;
+        cc (
+          is,
+          unclear-kept x f room move turns (base x) kept xs ys lx ly (rows-vectors x.q x.m f a)
+              (rows-vectors x.q x.m f b) free inside outside come,
+          together,
+        );
   }
 
 pub earlier_for_each : (x : Strata) (f : IsField x.q) → EarlierForEach x

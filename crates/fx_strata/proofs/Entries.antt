@@ -1,6 +1,6 @@
 -- What a change makes of a row, entry by entry.
-use Rattle.std.proofs.Common.{ℕ, ◌≡◌, ◌<◌, ◌+◌, zero, suc, false, cond, eqb, List, [], ◌∷◌, length, slice_index}
-use Rattle.std.proofs.Common.{slice_set, refl, sym, ◌∙◌, ap, ap₂, arith, inl, inr, ne_eqb}
+use Rattle.std.proofs.Common.{ℕ, ◌≡◌, ◌<◌, ◌+◌, zero, suc, cond, eqb, List, [], ◌∷◌, length, slice_index}
+use Rattle.std.proofs.Common.{slice_set, refl, sym, ◌∙◌, ap₂, arith, inl, inr, ne_eqb}
 use Rattle.std.proofs.lemmas.Bool.{cases_eq}
 use Rattle.std.proofs.lemmas.List.{length-map, get_or-map, get_or-set_other}
 use Rattle.std.proofs.lemmas.Grind.{get_or-set_at}
@@ -19,7 +19,7 @@ same-lists [] [] e h = refl
 same-lists [] (y ∷ ys) e h = absurd (omega arith)
 same-lists (x ∷ xs) [] e h = absurd (omega arith)
 same-lists (x ∷ xs) (y ∷ ys) e h =
-    let first : x ≡ y = h 0 (omega arith) in
+    let first = h 0 (omega arith) in
     ap₂ (λ a b. a ∷ b) first (same-lists xs ys (omega arith) (λ j low. h (suc j) (omega arith)))
 
 -- the first i entries of an image
@@ -31,9 +31,11 @@ module _ (q m : ℕ) (f : IsField q) (change v : List ℕ) (count : length chang
   entry : (i : ℕ) → i < m → slice_index (levels_at q (vectors_of q m change) v) i
       ≡ dot q (digits q m (slice_index change i)) v
   entry i low =
-      get_or-map (λ r. dot q r v) (vectors_of q m change) i [] 0
-      (let e = length-map change (λ r. digits q m r) in omega arith)
-      ∙ ap (λ r. dot q r v) (get_or-map (λ r. digits q m r) change i 0 [] (omega arith))
+      cc (
+        get_or-map (λ r. dot q r v) (vectors_of q m change) i [] 0
+            (let e = length-map change (λ r. digits q m r) in omega arith),
+        get_or-map (λ r. digits q m r) change i 0 [] (omega arith),
+      )
 
   pub image-more : (image : List ℕ) (i c : ℕ) → i < m → IsImageTo q m change v image i
       → c ≡ dot q (digits q m (slice_index change i)) v
@@ -41,8 +43,7 @@ module _ (q m : ℕ) (f : IsField q) (change v : List ℕ) (count : length chang
   image-more image i c low h is vector = record {
     vector = vector;
     are = λ j before. elim (cases_eq j i) [
-      | inl e ↦ get_or-set_at image i j c 0 e (let l = h.vector.len in omega arith) ∙ is ∙ sym (entry i low)
-          ∙ ap (slice_index (levels_at q (vectors_of q m change) v)) (sym e)
+      | inl e ↦ cc (get_or-set_at image i j c 0 e (let l = h.vector.len in omega arith), entry i low)
       | inr ne ↦ get_or-set_other image i j c 0 ne ∙ h.are j (omega arith)
     ];
   }
@@ -51,8 +52,7 @@ module _ (q m : ℕ) (f : IsField q) (change v : List ℕ) (count : length chang
       → image ≡ levels_at q (vectors_of q m change) v
   image-whole image i all h =
       same-lists image (levels_at q (vectors_of q m change) v)
-      (h.vector.len ∙ sym
-      (length-map (vectors_of q m change) (λ r. dot q r v) ∙ length-map change (λ r. digits q m r) ∙ count))
+      (cc (h.vector.len, length-map (vectors_of q m change) (λ r. dot q r v), length-map change (λ r. digits q m r)))
       (λ j low. h.are j (let e = h.vector.len in omega arith))
 
 -- the number of the zero vector, and that of another
@@ -60,10 +60,10 @@ pub moved-zero : (d : Dimensions) (f : IsField d.q) (change : List ℕ) (row : �
     → weight (levels_at d.q (vectors_of d.q d.m change) (digits d.q d.m row)) ≡ 0
     → IsVector d.q d.m (levels_at d.q (vectors_of d.q d.m change) (digits d.q d.m row)) → 0 ≡ moved d change row
 moved-zero d f change row none vector =
-    let v : List ℕ = levels_at d.q (vectors_of d.q d.m change) (digits d.q d.m row) in
-    let c : ℕ = cond (eqb (last_nonzero v) 0) 1 (inv d.q (last_nonzero v)) in
-    let e : v ≡ zeros d.m = zeros_from_weight v d.m vector.len none in
-    sym (ap (λ z. number d.q (scale d.q c z)) e ∙ ap (number d.q) (scaled-zeros c d.m) ∙ number-zeros d.q d.m)
+    let v = levels_at d.q (vectors_of d.q d.m change) (digits d.q d.m row) in
+    let c = cond (eqb (last_nonzero v) 0) 1 (inv d.q (last_nonzero v)) in
+    let e = zeros_from_weight v d.m vector.len none in
+    sym (cc (scaled-zeros c d.m, number-zeros d.q d.m))
   where
     scaled-zeros : (c n : ℕ) → scale d.q c (zeros n) ≡ zeros n
     scaled-zeros c zero = refl
@@ -75,7 +75,7 @@ pub moved-some : (d : Dimensions) (f : IsField d.q) (change : List ℕ) (row : �
     (levels_at d.q (vectors_of d.q d.m change) (digits d.q d.m row)))
     ≡ moved d change row
 moved-some d f change row some =
-    let v : List ℕ = levels_at d.q (vectors_of d.q d.m change) (digits d.q d.m row) in
-    let positive : 0 < last_nonzero v = last_nonzero-positive v some in
-    let ne : eqb (last_nonzero v) 0 ≡ false = ne_eqb (last_nonzero v) 0 (λ e. omega arith) in
-    ap (λ b. number d.q (scale d.q (cond b 1 (inv d.q (last_nonzero v))) v)) (sym ne)
+    let v = levels_at d.q (vectors_of d.q d.m change) (digits d.q d.m row) in
+    let positive = last_nonzero-positive v some in
+    let ne = ne_eqb (last_nonzero v) 0 (λ e. omega arith) in
+    cc

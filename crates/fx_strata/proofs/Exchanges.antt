@@ -35,7 +35,7 @@ all_range p a zero h i low high = absurd (omega arith)
 all_range p a (suc n) h i low high =
     let parts = and_parts (p a) (list_all p (range_with_len (a + 1) n)) h in
     elim (cases_eq a i) [
-      | inl e ↦ ap p (sym e) ∙ parts.0
+      | inl e ↦ cc parts.0
       | inr ne ↦ all_range p (a + 1) n parts.1 i (omega arith) (omega arith)
     ]
 
@@ -53,7 +53,7 @@ pub found_range : (p : ℕ → Bool) (a n : ℕ) → list_any p (range_with_len 
 found_range p a zero h = absurd (cc h)
 found_range p a (suc n) h = elim (or_cases (p a) (list_any p (range_with_len (a + 1) n)) h) [
   | inl t ↦ (a, omega arith, omega arith, t)
-  | inr t ↦ (let r = found_range p (a + 1) n t in (r.0, omega (arith, r.1), omega (arith, r.2), r.3))
+  | inr t ↦ (let r = found_range p (a + 1) n t in (r.0, omega arith, omega arith, r.3))
 ]
 
 -- swaps before and after a map
@@ -62,12 +62,12 @@ swapped-map g zero [] = refl
 swapped-map g zero (x ∷ []) = refl
 swapped-map g zero (x ∷ y ∷ xs) = refl
 swapped-map g (suc k) [] = refl
-swapped-map g (suc k) (x ∷ xs) = ap (λ z. g x ∷ z) (swapped-map g k xs)
+swapped-map g (suc k) (x ∷ xs) = cc (swapped-map g k xs)
 
 pub reordered-map : {X Y : Type 0} (g : X → Y) (ks : List ℕ) (xs : List X)
     → map g (reordered ks xs) ≡ reordered ks (map g xs)
 reordered-map g [] xs = refl
-reordered-map g (k ∷ ks) xs = reordered-map g ks (swapped k xs) ∙ ap (reordered ks) (swapped-map g k xs)
+reordered-map g (k ∷ ks) xs = cc (reordered-map g ks (swapped k xs), swapped-map g k xs)
 
 pub member-left : (x : ℕ) (xs ys : List ℕ) → IsMember x xs → IsMember x (xs ++ ys)
 member-left x [] ys h = absurd h
@@ -87,22 +87,22 @@ IsExchange d change rows = (i : ℕ) → i < d.m → IsMember (d.q ^ i) (map (mo
 
 module _ (d : Dimensions) (f : IsField d.q) where
   some : 0 < d.q
-  some = omega (arith, f.more_than_one)
+  some = omega arith
 
   -- the unit vectors and their numbers
   pub units-vectors : (k j : ℕ) → k + j ≤ d.m
       → vectors_of d.q d.m (map (λ i. d.q ^ i) (range_with_len k j)) ≡ units_from d.m k j
   units-vectors k zero h = refl
   units-vectors k (suc j) h =
-      ap₂ (λ x xs. x ∷ xs) (digits-unit d.q d.m k f (omega arith))
-      (subst (λ n. vectors_of d.q d.m (map (λ i. d.q ^ i) (range_with_len (k + 1) j)) ≡ units_from d.m n j)
-      (let e : k + 1 ≡ suc k = omega arith in e)
-      (units-vectors (k + 1) j (omega arith)))
+      cc (
+        digits-unit d.q d.m k f (omega arith),
+        subst (λ n. vectors_of d.q d.m (map (λ i. d.q ^ i) (range_with_len (k + 1) j)) ≡ units_from d.m n j)
+            (let e : k + 1 ≡ suc k = omega arith in e) (units-vectors (k + 1) j (omega arith)),
+      )
 
   apart : (i j : ℕ) → i < j → j < d.m → d.q ^ i ≡ d.q ^ j → ⊥
   apart i j less low e =
-      let same : unit d.m i ≡ unit d.m j = sym (digits-unit d.q d.m i f (omega arith)) ∙ ap (digits d.q d.m) e
-      ∙ digits-unit d.q d.m j f low in
+      let same : unit d.m i ≡ unit d.m j = cc (digits-unit d.q d.m i f (omega arith), digits-unit d.q d.m j f low) in
       unit-long d.m j low (subst (IsShort j) same (short-le (suc i) j (unit d.m i) (omega arith) (unit_short d.m i)))
 
   pub units-differ : (k j : ℕ) → k + j ≤ d.m → Differ (map (λ i. d.q ^ i) (range_with_len k j))
@@ -141,12 +141,12 @@ module _ (d : Dimensions) (f : IsField d.q) where
     preimage i [] low h = absurd h
     preimage i (r ∷ rows) low (inr h) = preimage i rows low h
     preimage i (r ∷ rows) low (inl e) =
-        let v : List ℕ = digits d.q d.m r in
-        let hv : IsVector d.q d.m v = digits-vector d.q d.m r some in
-        let c : ℕ = normal_factor d.q d.m f (by v) in
-        let w : List ℕ = scale d.q c v in
-        let is : by w ≡ scale d.q c (by v) = levels-scale d.q f (vectors_of d.q d.m change) c v in
-        let hb : IsVector d.q d.m (scale d.q c (by v)) =
+        let v = digits d.q d.m r in
+        let hv = digits-vector d.q d.m r some in
+        let c = normal_factor d.q d.m f (by v) in
+        let w = scale d.q c v in
+        let is = levels-scale d.q f (vectors_of d.q d.m change) c v in
+        let hb =
         scale-vector d.q d.m f c (by v) (by-vector d.q d.m f (vectors_of d.q d.m change) many v) in (
           w,
           scale-vector d.q d.m f c v hv,
@@ -176,4 +176,4 @@ module _ (d : Dimensions) (f : IsField d.q) where
 
     pub numbers : (rows : List ℕ) → map (number d.q) (normed rows) ≡ map (moved d change) rows
     numbers [] = refl
-    numbers (r ∷ rows) = ap (λ z. moved d change r ∷ z) (numbers rows)
+    numbers (r ∷ rows) = cc (numbers rows)

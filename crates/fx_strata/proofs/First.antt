@@ -1,6 +1,6 @@
 -- Where inside factors are missing, the rows of all outside factors are live.
-use Rattle.std.proofs.Common.{ℕ, ◌≡◌, ◌<◌, ◌≤◌, ◌+◌, ◌-◌, ◌^◌, Bool, true, false, not, cond, eqb, ◌&&◌, List, [], ◌∷◌}
-use Rattle.std.proofs.Common.{◌++◌, length, take, drop, refl, sym, subst, ◌∙◌, ap, arith, inl, inr, eq-eqb}
+use Rattle.std.proofs.Common.{ℕ, ◌≡◌, ◌<◌, ◌≤◌, ◌+◌, ◌-◌, ◌^◌, Bool, true, not, cond, eqb, ◌&&◌, List, [], ◌∷◌}
+use Rattle.std.proofs.Common.{◌++◌, length, take, drop, refl, subst, ◌∙◌, ap, arith, inl, inr, eq-eqb}
 use Rattle.std.proofs.Common.{take-append-drop, length-append, ap₂}
 use Rattle.std.specs.List.{AllByRecursion, sum_by}
 use Rattle.std.proofs.lemmas.Bool.{and_from, ne_eqb, cond-true, false_from_ne_true, lt-ltb, ltb-true}
@@ -10,7 +10,7 @@ use Rattle.std.proofs.lemmas.List.Elements.{recursion_from_All}
 use Rattle.std.specs.Prelude.{nat_lt}
 use Rattle.fx_base.proofs.Lists.{each-append_parts}
 use Rattle.fx_designs.specs.Galois.{IsField, number, digits}
-use Rattle.fx_designs.specs.Vectors.{IsVector, weight, combination, vectors_of}
+use Rattle.fx_designs.specs.Vectors.{weight, combination, vectors_of}
 use Rattle.fx_designs.specs.Runs.{points}
 use Rattle.fx_designs.specs.Spans.{in_span}
 use Rattle.fx_designs.specs.Problems.{Dimensions}
@@ -29,10 +29,10 @@ use Rattle.fx_strata.specs.Canonical.{dimensions_of, base, IsDesign}
 use Rattle.fx_strata.specs.Clear.{is_live}
 use Rattle.fx_strata.specs.Laws.{LiveByTallies}
 use Rattle.fx_strata.proofs.Moved.{in-base, base-in}
-use Rattle.fx_strata.proofs.Keeping.{short-combination}
 use Rattle.fx_strata.proofs.Earlier.{InRange, stage-range, shorts}
 use Rattle.fx_strata.proofs.Rests.{split}
 use Rattle.fx_strata.proofs.Live.{hit, spread-total}
+use Rattle.fx_laws.proofs.Ranks.{short-combination}
 
 sum-back : (g : ℕ → ℕ) (ms ys : List ℕ) → sum_by g ys ≤ sum_by g (ms ++ ys)
 sum-back g [] ys = omega arith
@@ -55,7 +55,7 @@ module _ (x : Strata) (f : IsField x.q) (c s : List ℕ) (D : IsDesign x (c ++ s
   all = c ++ s
 
   some : 0 < x.q
-  some = omega (arith, f.more_than_one)
+  some = omega arith
 
   room : x.h ≤ x.m
   room = D.laid.base
@@ -75,30 +75,30 @@ module _ (x : Strata) (f : IsField x.q) (c s : List ℕ) (D : IsDesign x (c ++ s
 
   none-at : (k n : ℕ) → x.q ^ x.h ≤ n → spread x.q x.m (vectors_of x.q x.m c) k n ≡ 0
   none-at k n high =
-      let C : List (List ℕ) = vectors_of x.q x.m c in
-      let ps : List (List ℕ) = points x.q (length C) in
+      let C = vectors_of x.q x.m c in
+      let ps = points x.q (length C) in
       spread-total x.q x.m f C k n
       ∙ sum_by-each (λ u. hit x.q x.m f k n (weight u) (combination x.q x.m u C)) (λ u. 0) ps
       (recursion_from_All _ ps (all-points x.q (length C) some
       (λ u. hit x.q x.m f k n (weight u) (combination x.q x.m u C) ≡ 0)
       (λ u hu.
-      let v : List ℕ = combination x.q x.m u C in
-      let hv : IsVector x.q x.m v = combination-vector x.q x.m f u C (rows-vectors x.q x.m f c) in
-      let below : number x.q v < x.q ^ x.h =
+      let v = combination x.q x.m u C in
+      let hv = combination-vector x.q x.m f u C (rows-vectors x.q x.m f c) in
+      let below =
       short-number x.q x.m x.h f v hv (short-combination x.q x.m x.h f u C inside) in
-      ap (λ b. cond {A = ℕ} (b && eqb (weight u) k) 1 0) (ne_eqb (number x.q v) n (λ e. omega arith)))))
+      cc (ne_eqb (number x.q v) n (λ e. omega arith)))))
       ∙ sum_by-zero ps
 
   is-live-row : (r : ℕ) → x.q ^ x.h ≤ r → r < x.q ^ x.m → is_live x c (digits x.q x.m r) ≡ true
   is-live-row r high top =
-      let v : List ℕ = digits x.q x.m r in
-      let hv : IsVector x.q x.m v = digits-vector x.q x.m r some in
-      let here : number x.q v ≡ r = number-digits x.q x.m r some top in
+      let v = digits x.q x.m r in
+      let hv = digits-vector x.q x.m r some in
+      let here = number-digits x.q x.m r some top in
       let up : x.q ^ x.h ≤ number x.q v = omega arith in
-      let out : in_span x.q x.m (base x) v ≡ false =
+      let out =
       false_from_ne_true (in_span x.q x.m (base x) v)
       (λ t. let short = short-number x.q x.m x.h f v hv (in-base x f room v hv t) in omega arith) in
-      let two : spread x.q x.m (vectors_of x.q x.m c) 2 (number x.q v) ≡ 0 = none-at 2 (number x.q v) up in
+      let two = none-at 2 (number x.q v) up in
       let few : spread x.q x.m (vectors_of x.q x.m c) 2 (number x.q v) < 2 = omega arith in
       and_from _ _ (ap not out)
       (and_from _ _ (eq-eqb _ _ (none-at 1 (number x.q v) up)) (lt-ltb _ _ few))
@@ -114,30 +114,30 @@ module _ (x : Strata) (f : IsField x.q) (c s : List ℕ) (D : IsDesign x (c ++ s
   pub others-live : x.n ≤ sum_by (λ r. cond {A = ℕ} (is_live x c (digits x.q x.m r)) 1 0) s
   others-live =
       let g : ℕ → ℕ = λ r. cond {A = ℕ} (is_live x c (digits x.q x.m r)) 1 0 in
-      let back : List ℕ = drop x.w all in
-      let ones : sum_by g back ≡ length back =
+      let back = drop x.w all in
+      let ones =
       sum-ones (λ r. is_live x c (digits x.q x.m r)) back
       (lives back (stage-range d f x.h (x.m - x.h) back D.laid.second)) in
       let e : length (take x.w all) + length back ≡ length all =
-      sym (length-append (take x.w all) back) ∙ ap (λ (l : List ℕ). length l) (take-append-drop x.w all) in
+      cc (length-append (take x.w all) back, take-append-drop x.w all) in
       let e1 = length-take x.w all in
       let e2 = D.laid.len in
       let more : sum_by g back ≤ sum_by g s =
-      subst (λ l. sum_by g back ≤ sum_by g l) (sym halves.2) (sum-back g halves.0 back) in
+      rw (← halves.2) at (sum-back g halves.0 back) in
       omega arith
 
 -- what is live is told from numbers
 pub live_by_tallies : (x : Strata) (f : IsField x.q) → LiveByTallies x
 live_by_tallies x f rows r room top =
-    let some : 0 < x.q = omega (arith, f.more_than_one) in
-    let v : List ℕ = digits x.q x.m r in
-    let hv : IsVector x.q x.m v = digits-vector x.q x.m r some in
-    let here : number x.q v ≡ r = number-digits x.q x.m r some top in
-    let inside : in_span x.q x.m (base x) v ≡ nat_lt r (x.q ^ x.h) =
+    let some : 0 < x.q = omega arith in
+    let v = digits x.q x.m r in
+    let hv = digits-vector x.q x.m r some in
+    let here = number-digits x.q x.m r some top in
+    let inside =
     bool_same (in_span x.q x.m (base x) v) (nat_lt r (x.q ^ x.h))
     (λ t. lt-ltb r (x.q ^ x.h)
-    (subst (λ n. n < x.q ^ x.h) here (short-number x.q x.m x.h f v hv (in-base x f room v hv t))))
+    (rw here at (short-number x.q x.m x.h f v hv (in-base x f room v hv t))))
     (λ t. base-in x f room v hv
-    (number-short x.q x.m x.h f v hv (subst (λ n. n < x.q ^ x.h) (sym here) (ltb-true r (x.q ^ x.h) t)))) in
+    (number-short x.q x.m x.h f v hv (rw here (ltb-true r (x.q ^ x.h) t)))) in
     ap₂ (λ i (n : ℕ). not i && (eqb (spread x.q x.m (vectors_of x.q x.m rows) 1 n) 0
     && nat_lt (spread x.q x.m (vectors_of x.q x.m rows) 2 n) 2)) inside here

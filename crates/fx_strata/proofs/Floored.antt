@@ -41,21 +41,18 @@ use Rattle.fx_strata.proofs.First.{others-live}
 -- one of the numbers, and the least sum of the others
 pub least-with : (k x : ℕ) (xs : List ℕ) → least_sum (suc k) (x ∷ xs) ≤ x + least_sum k xs
 least-with k x xs = elim (cases_Bool (nat_le (length xs) k)) [
-  | inl t ↦ subst (λ n. n ≤ x + least_sum k xs)
-      (sym (cond-true (nat_le (length xs) k) (x + least_sum k xs) (min (x + least_sum k xs) (least_sum (suc k) xs)) t))
-      (omega arith)
-  | inr o ↦ subst (λ n. n ≤ x + least_sum k xs)
-      (sym (cond-false (nat_le (length xs) k) (x + least_sum k xs) (min (x + least_sum k xs) (least_sum (suc k) xs)) o))
-      (omega arith)
+  | inl t ↦ rw (cond-true (nat_le (length xs) k) (x + least_sum k xs) (min (x + least_sum k xs) (least_sum (suc k) xs))
+      t) (omega arith)
+  | inr o ↦ rw (cond-false (nat_le (length xs) k) (x + least_sum k xs) (min (x + least_sum k xs) (least_sum (suc k) xs))
+      o) (omega arith)
 ]
 
 -- without it, where there are enough others
 pub least-without : (k x : ℕ) (xs : List ℕ) → suc k ≤ length xs → least_sum (suc k) (x ∷ xs) ≤ least_sum (suc k) xs
 least-without k x xs h = elim (cases_Bool (nat_le (length xs) k)) [
   | inl t ↦ absurd (let low : length xs ≤ k = grind (arith, nat_tests, t) in omega arith)
-  | inr o ↦ subst (λ n. n ≤ least_sum (suc k) xs)
-      (sym (cond-false (nat_le (length xs) k) (x + least_sum k xs) (min (x + least_sum k xs) (least_sum (suc k) xs)) o))
-      (omega arith)
+  | inr o ↦ rw (cond-false (nat_le (length xs) k) (x + least_sum k xs) (min (x + least_sum k xs) (least_sum (suc k) xs))
+      o) (omega arith)
 ]
 
 -- rows that come have at least the least sum of all that can come
@@ -64,32 +61,29 @@ come-sum : (d : Dimensions) (from : ℕ) (g : ℕ → ℕ) (n : ℕ) (xs : List 
 come-sum d from g n [] h = omega arith
 come-sum d from g zero (x ∷ xs) h = absurd (let e = h.1 in omega arith)
 come-sum d from g (suc n) (x ∷ xs) h =
-    let rest : List ℕ = filter (λ r. is_later d from r) (falling n) in
-    let k : ℕ = length xs in
-    let sum : sum_by g (x ∷ xs) ≡ g x + sum_by g xs = sum_by-cons g x xs in
+    let rest = filter (λ r. is_later d from r) (falling n) in
+    let k = length xs in
+    let sum = sum_by-cons g x xs in
     elim (cases_eq x n) [
       | inl e ↦
-          let on : is_later d from n ≡ true = subst (λ z. is_later d from z ≡ true) e h.0 in
-          let less : least_sum k (map g rest) ≤ sum_by g xs =
-          come-sum d from g n xs (subst (λ z. AreLater d from z xs) e h.2) in
-          let with : least_sum (suc k) (g n ∷ map g rest) ≤ g n + least_sum k (map g rest) =
+          let on : is_later d from n ≡ true = rw e at h.0 in
+          let less =
+          come-sum d from g n xs (rw e at h.2) in
+          let with =
           least-with k (g n) (map g rest) in
           let same : g x ≡ g n = ap g e in
-          subst (λ l. least_sum (suc k) (map g l) ≤ sum_by g (x ∷ xs))
-          (sym (cond-true (is_later d from n) (n ∷ rest) rest on)) (omega arith)
+          rw (cond-true (is_later d from n) (n ∷ rest) rest on) (omega arith)
       | inr ne ↦
           let low : x < n = (let e = h.1 in omega arith) in
-          let less : least_sum (suc k) (map g rest) ≤ sum_by g (x ∷ xs) =
+          let less =
           come-sum d from g n (x ∷ xs) (h.0, low, h.2) in
           elim (cases_Bool (is_later d from n)) [
             | inl t ↦
-                let many : suc k ≤ length rest = fits d from n (x ∷ xs) (h.0, low, h.2) in
-                let out : least_sum (suc k) (g n ∷ map g rest) ≤ least_sum (suc k) (map g rest) =
+                let many = fits d from n (x ∷ xs) (h.0, low, h.2) in
+                let out =
                 least-without k (g n) (map g rest) (let e = length-map rest g in omega arith) in
-                subst (λ l. least_sum (suc k) (map g l) ≤ sum_by g (x ∷ xs))
-                (sym (cond-true (is_later d from n) (n ∷ rest) rest t)) (omega arith)
-            | inr o ↦ subst (λ l. least_sum (suc k) (map g l) ≤ sum_by g (x ∷ xs))
-                (sym (cond-false (is_later d from n) (n ∷ rest) rest o)) less
+                rw (cond-true (is_later d from n) (n ∷ rest) rest t) (omega arith)
+            | inr o ↦ rw (cond-false (is_later d from n) (n ∷ rest) rest o) less
           ]
     ]
 
@@ -99,25 +93,22 @@ come-count : (d : Dimensions) (from : ℕ) (p : ℕ → Bool) (n : ℕ) (xs : Li
 come-count d from p n [] h = omega arith
 come-count d from p zero (x ∷ xs) h = absurd (let e = h.1 in omega arith)
 come-count d from p (suc n) (x ∷ xs) h =
-    let rest : List ℕ = filter (λ r. is_later d from r) (falling n) in
-    let head : count_by p (n ∷ rest) ≡ cond (p n) 1 0 + count_by p rest = sum_by-cons (λ r. cond (p r) 1 0) n rest in
-    let first : count_by p (x ∷ xs) ≡ cond (p x) 1 0 + count_by p xs = sum_by-cons (λ r. cond (p r) 1 0) x xs in
+    let rest = filter (λ r. is_later d from r) (falling n) in
+    let head = sum_by-cons (λ r. cond (p r) 1 0) n rest in
+    let first = sum_by-cons (λ r. cond (p r) 1 0) x xs in
     elim (cases_eq x n) [
       | inl e ↦
-          let on : is_later d from n ≡ true = subst (λ z. is_later d from z ≡ true) e h.0 in
-          let less : count_by p xs ≤ count_by p rest =
-          come-count d from p n xs (subst (λ z. AreLater d from z xs) e h.2) in
-          let same : cond {A = ℕ} (p x) 1 0 ≡ cond (p n) 1 0 = ap (λ z. cond {A = ℕ} (p z) 1 0) e in
-          subst (λ l. count_by p (x ∷ xs) ≤ count_by p l)
-          (sym (cond-true (is_later d from n) (n ∷ rest) rest on)) (omega arith)
+          let on : is_later d from n ≡ true = rw e at h.0 in
+          let less =
+          come-count d from p n xs (rw e at h.2) in
+          let same : cond {A = ℕ} (p x) 1 0 ≡ cond (p n) 1 0 = cc in
+          rw (cond-true (is_later d from n) (n ∷ rest) rest on) (omega arith)
       | inr ne ↦
           let low : x < n = (let e = h.1 in omega arith) in
-          let less : count_by p (x ∷ xs) ≤ count_by p rest = come-count d from p n (x ∷ xs) (h.0, low, h.2) in
+          let less = come-count d from p n (x ∷ xs) (h.0, low, h.2) in
           elim (cases_Bool (is_later d from n)) [
-            | inl t ↦ subst (λ l. count_by p (x ∷ xs) ≤ count_by p l)
-                (sym (cond-true (is_later d from n) (n ∷ rest) rest t)) (omega arith)
-            | inr o ↦ subst (λ l. count_by p (x ∷ xs) ≤ count_by p l)
-                (sym (cond-false (is_later d from n) (n ∷ rest) rest o)) less
+            | inl t ↦ rw (cond-true (is_later d from n) (n ∷ rest) rest t) (omega arith)
+            | inr o ↦ rw (cond-false (is_later d from n) (n ∷ rest) rest o) less
           ]
     ]
 
@@ -143,12 +134,12 @@ no-threes (Words kind k ∷ order) [] a h less = absurd (cc h)
 no-threes (Words kind k ∷ order) (count ∷ key) a h less =
     let p = and_parts (not kind) (eqb k 3 && eqb count 0) h in
     let p1 = and_parts (eqb k 3) (eqb count 0) p.1 in
-    let constant : kind ≡ false = not-true kind p.0 in
-    let three : k ≡ 3 = eqb-true k 3 p1.0 in
-    let none : count ≡ 0 = eqb-true count 0 p1.1 in
-    let n : ℕ = a.words kind k in
+    let constant = not-true kind p.0 in
+    let three = eqb-true k 3 p1.0 in
+    let none = eqb-true count 0 p1.1 in
+    let n = a.words kind k in
     let zero_words : n ≡ 0 = elim (or_cases (nat_lt n count) (eqb n count && is_less (key_of order a) key) less) [
-      | inl l ↦ absurd (let l' : n < count = ltb-true n count l in omega arith)
+      | inl l ↦ absurd (let l' = ltb-true n count l in omega arith)
       | inr l ↦ eqb-true n count (and_parts (eqb n count) (is_less (key_of order a) key) l).0 ∙ none
     ] in
     sym (ap₂ a.words constant three) ∙ zero_words
@@ -174,23 +165,24 @@ module _ (x : Strata) (f : IsField x.q) where
     added-row : (c : List ℕ) (r : ℕ)
         → total x.q x.m f g (digits x.q x.m r ∷ vectors_of x.q x.m c) ≡ count test k (c ++ r ∷ [])
     added-row c r =
-        total-turned x.q x.m f g (digits x.q x.m r ∷ []) (vectors_of x.q x.m c)
-        ∙ ap (total x.q x.m f g) (sym (map-append (λ r. digits x.q x.m r) c (r ∷ [])))
-        ∙ sym (as-total (c ++ r ∷ []))
+        cc (
+          total-turned x.q x.m f g (digits x.q x.m r ∷ []) (vectors_of x.q x.m c),
+          map-append (λ r. digits x.q x.m r) c (r ∷ []),
+          as-total (c ++ r ∷ []),
+        )
 
     grow : (c xs : List ℕ)
         → count test k c + sum_by (λ r. count test k (c ++ r ∷ []) - count test k c) xs ≤ count test k (c ++ xs)
     grow c xs =
-        let vc : List (List ℕ) = vectors_of x.q x.m c in
-        let vx : List (List ℕ) = vectors_of x.q x.m xs in
-        let more : total x.q x.m f g vc + sum_by (added x.q x.m f g vc) vx ≤ total x.q x.m f g (vx ++ vc) =
+        let vc = vectors_of x.q x.m c in
+        let vx = vectors_of x.q x.m xs in
+        let more =
         total-more x.q x.m f g vx vc (rows-vectors x.q x.m f xs) (rows-vectors x.q x.m f c) in
         let last : total x.q x.m f g (vx ++ vc) ≡ count test k (c ++ xs) =
-        total-turned x.q x.m f g vx vc ∙ ap (total x.q x.m f g) (sym (map-append (λ r. digits x.q x.m r) c xs))
-        ∙ sym (as-total (c ++ xs)) in
+        cc (total-turned x.q x.m f g vx vc, map-append (λ r. digits x.q x.m r) c xs, as-total (c ++ xs)) in
         let each : sum_by (added x.q x.m f g vc) vx ≡ sum_by (λ r. count test k (c ++ r ∷ []) - count test k c) xs =
         sum_by_map (added x.q x.m f g vc) (λ r. digits x.q x.m r) xs
-        ∙ sum_by-ext _ _ xs (λ r. ap₂ (λ (a b : ℕ). a - b) (added-row c r) (sym (as-total c))) in
+        ∙ sum_by-ext _ _ xs (λ r. cc (added-row c r, as-total c)) in
         let first = as-total c in
         omega arith
 
@@ -207,8 +199,7 @@ module _ (x : Strata) (f : IsField x.q) where
   confounded-words : (k : ℕ) (rows : List ℕ) → words x rows true k ≡ count T k rows - count T k (take x.w rows)
   unfolding count
   confounded-words k rows =
-      ap (λ (l : List (List ℕ)). words_in x.q x.m T (vectors_of x.q x.m rows) k - words_in x.q x.m T l k)
-      (take-vectors x.q x.m x.w rows)
+      cc (take-vectors x.q x.m x.w rows)
 
   none-yet : (k : ℕ) (rows : List ℕ) → length rows ≤ x.w → words x rows true k ≡ 0
   none-yet k rows few =
@@ -261,13 +252,11 @@ module _ (x : Strata) (f : IsField x.q) where
   unfolding count
   new-confounded k c r high =
       let fixed : words x (c ++ r ∷ []) true k ≡ count T k (c ++ r ∷ []) - count T k (take x.w c) =
-      confounded-words k (c ++ r ∷ [])
-      ∙ ap (λ l. count T k (c ++ r ∷ []) - count T k l) (take-append-le x.w c (r ∷ []) high) in
+      cc (confounded-words k (c ++ r ∷ []), take-append-le x.w c (r ∷ []) high) in
       let here = confounded-words k c in
       let part : count T k (take x.w c) ≤ count T k c =
-      subst (λ l. count T k (take x.w c) ≤ count T k l) (take-append-drop x.w c)
-      (grows T k (take x.w c) (drop x.w c)) in
-      let up : count T k c ≤ count T k (c ++ r ∷ []) = grows T k c (r ∷ []) in
+      rw (take-append-drop x.w c) at (grows T k (take x.w c) (drop x.w c)) in
+      let up = grows T k c (r ∷ []) in
       omega arith
 
   pub inside-grows : (k : ℕ) (c : List ℕ) (r : ℕ)
@@ -284,7 +273,7 @@ module _ (x : Strata) (f : IsField x.q) where
       → words x c b k + sum_by (λ r. new_words x c r b k) xs ≤ words x (c ++ (xs ++ s)) b k
   words-grow-by-rows b k c xs s =
       le_trans (words-grow b k c xs)
-      (subst (λ l. words x (c ++ xs) b k ≤ words x l b k) (append_assoc c xs s) (words-more b k (c ++ xs) s))
+      (rw (append_assoc c xs s) at (words-more b k (c ++ xs) s))
 
   module _ (c s : List ℕ) (D : IsDesign x (c ++ s)) where
     laid : IsLaid x (c ++ s)
@@ -301,11 +290,11 @@ module _ (x : Strata) (f : IsField x.q) where
       | inr o ↦ unasked xs o
       | inl t ↦
           let all : words x (c ++ (xs ++ behind)) false 3 ≡ 0 =
-          subst (λ l. words x (c ++ l) false 3 ≡ 0) is (three t) in
-          let more : words x (c ++ xs) false 3 ≤ words x ((c ++ xs) ++ behind) false 3 =
+          rw is at (three t) in
+          let more =
           words-more false 3 (c ++ xs) behind in
           let whole : words x ((c ++ xs) ++ behind) false 3 ≡ words x (c ++ (xs ++ behind)) false 3 =
-          ap (λ l. words x l false 3) (append_assoc c xs behind) in
+          cc (append_assoc c xs behind) in
           let grown = words-grow false 3 c xs in
           asked xs (each-none (λ r. new_words x c r false 3) xs (omega arith))
     ]
@@ -314,7 +303,7 @@ module _ (x : Strata) (f : IsField x.q) where
             → AllByRecursion (λ r. is_live x c (digits x.q x.m r) ≡ false → is_spare x none c r ≡ true) ys
         unasked [] o = tt
         unasked (r ∷ ys) o = (
-          λ dead. and_from _ _ (ap not dead) (ap (λ b. not (b && nat_lt 0 (new_words x c r false 3))) o),
+          λ dead. and_from _ _ (ap not dead) (cc),
           unasked ys o,
         )
 
@@ -323,7 +312,7 @@ module _ (x : Strata) (f : IsField x.q) where
         asked [] e = tt
         asked (r ∷ ys) e = (
           λ dead. and_from _ _ (ap not dead)
-              (ap (λ (n : ℕ). not (none && nat_lt 0 n)) e.0 ∙ never none),
+              (cc (e.0, never none)),
           asked ys e.1,
         )
           where
@@ -370,21 +359,20 @@ module _ (x : Strata) (f : IsField x.q) where
         → (part : Part) → floor_at x none c part ≤ part_of (figures x (c ++ s)) part
     floor-low there none three Unclear = floor-unclear there none three
     floor-low there none three (Words b k) =
-        let p : Rest x c s = rest x f c s laid there in
+        let p = rest x f c s laid there in
         let g : ℕ → ℕ = λ r. new_words x c r b k in
         let grown : words x c b k + sum_by g p.rows ≤ words x (c ++ s) b k =
-        subst (λ l. words x c b k + sum_by g p.rows ≤ words x (c ++ l) b k) (sym p.is)
-        (words-grow-by-rows b k c p.rows p.behind) in
-        let least : least_sum (length p.rows) (map g (later_rows x c)) ≤ sum_by g p.rows =
+        rw (← p.is) at (words-grow-by-rows b k c p.rows p.behind) in
+        let least =
         come-sum (dimensions_of x) (stage_after x c).first_unit g (bound x c) p.rows p.later in
         let least' : least_sum (missing x c) (map g (later_rows x c)) ≤ sum_by g p.rows =
-        subst (λ n. least_sum n (map g (later_rows x c)) ≤ sum_by g p.rows) p.len least in
+        rw p.len at least in
         omega arith
 
     floored : (order : Order) (key : List ℕ) → cannot_beat x order (Some key) c ≡ true
         → is_less (key_of order (figures x (c ++ s))) key ≡ false
     floored order key h = false_from_ne_true _ (λ less.
-        let none : Bool = needs_none order key in
+        let none = needs_none order key in
         let p = and_parts (has_units x c) (not (is_less (floor x order none c) key)) h in
         both_ways (is_less (key_of order (figures x (c ++ s))) key)
         (not_above (key_of order (figures x (c ++ s))) (floor x order none c) key

@@ -56,7 +56,7 @@ module _ (x : Strata) (f : IsField x.q) (c s : List ℕ) (laid : IsLaid x (c ++ 
   back-length : length (drop x.w all) ≡ x.n
   back-length =
       let e : length (take x.w all) + length (drop x.w all) ≡ length all =
-      sym (length-append (take x.w all) (drop x.w all)) ∙ ap (λ (l : List ℕ). length l) parts in
+      cc (length-append (take x.w all) (drop x.w all), parts) in
       let e' = front-length in
       let e2 = laid.len in
       omega arith
@@ -96,7 +96,7 @@ module _ (x : Strata) (f : IsField x.q) (c s : List ℕ) (laid : IsLaid x (c ++ 
         rows = drop x.w all;
         post = [];
         begins = front-length;
-        is = sym parts ∙ ap (λ l. take x.w all ++ l) (sym (append-nil (drop x.w all)));
+        is = cc (parts, append-nil (drop x.w all));
         stage = laid.second;
         ends = (let e = back-length in omega arith);
         past = high;
@@ -115,12 +115,12 @@ module _ (x : Strata) (f : IsField x.q) (c s : List ℕ) (laid : IsLaid x (c ++ 
   rest-at st h there =
       let r = in-stage x st h.pre h.rows h.post c s h.begins h.is h.stage there
       (let a = h.ends in let b = h.few in omega arith) in
-      (r.0, r.1, r.2, r.3, r.4 ∙ ap (λ (n : ℕ). n - length c) h.ends)
+      (r.0, r.1, r.2, r.3, cc (r.4, h.ends))
 
   there-at : (st : Stage) → stage_after x c ≡ st → has_units x c ≡ true → st.begin + st.units ≤ length c
   there-at st e h =
       let t : nat_le (st.begin + st.units) (length c) ≡ true =
-      subst (λ (z : Stage). nat_le (z.begin + z.units) (length c) ≡ true) e h in
+      rw e at h in
       grind (arith, nat_tests, t)
 
   pub rest : has_units x c ≡ true → Rest x c s
@@ -135,8 +135,8 @@ module _ (x : Strata) (f : IsField x.q) (c s : List ℕ) (laid : IsLaid x (c ++ 
   no_room h =
       let p = and_parts (has_units x c) (nat_lt (length (later_rows x c)) (missing x c)) h in
       let r = rest p.0 in
-      let few : length (later_rows x c) < missing x c = ltb-true _ _ p.1 in
-      let many : length r.rows ≤ length (later_rows x c) =
+      let few = ltb-true _ _ p.1 in
+      let many =
       fits d (stage_after x c).first_unit (bound x c) r.rows r.later in
       let e = r.len in
       omega arith
@@ -145,16 +145,16 @@ module _ (x : Strata) (f : IsField x.q) (c s : List ℕ) (laid : IsLaid x (c ++ 
   pub low : AllByRecursion (λ r. r < x.q ^ x.m) all
   low =
       let base = laid.base in
-      let some : 0 < x.q = omega (arith, f.more_than_one) in
+      let some : 0 < x.q = omega arith in
       let under : (from len : ℕ) (rows : List ℕ) → from + len ≤ x.m → IsStage d from len rows
       → AllByRecursion (λ r. r < x.q ^ x.m) rows =
       λ from len rows room st. each-weaker (InRange d f from len) (λ r. r < x.q ^ x.m) rows
-      (λ r k. (let w : x.q ^ (from + len) ≤ x.q ^ x.m = pow-le-pow_right some room in let l = k.high in omega arith))
+      (λ r k. (let w = pow-le-pow_right some room in let l = k.high in omega arith))
       (stage-range d f from len rows st) in
       subst (AllByRecursion (λ r. r < x.q ^ x.m)) parts
       (each-append (λ r. r < x.q ^ x.m) (take x.w all) (drop x.w all)
       (elim (laid.first) [
-        | inl e ↦ subst (λ n. AllByRecursion (λ r. r < x.q ^ x.m) (take n all)) (sym e) tt
+        | inl e ↦ rw e tt
         | inr st ↦ under 0 x.h (take x.w all) (omega arith) st
       ])
       (under x.h (x.m - x.h) (drop x.w all) (omega arith) laid.second))
@@ -168,23 +168,22 @@ module _ (x : Strata) (f : IsField x.q) (c s : List ℕ) (r : ℕ) (laid : IsLai
       let begins = h.begins in
       let one = split c (r ∷ s) h.pre (h.rows ++ h.post) h.is (omega arith) in
       let lc : length c ≡ length h.pre + length one.0 =
-      ap (λ (l : List ℕ). length l) one.1 ∙ length-append h.pre one.0 in
+      cc (one.1, length-append h.pre one.0) in
       let e : units x.q st.first_unit st.units ++ (h.stage.others ++ h.post) ≡ one.0 ++ r ∷ s =
-      sym (append_assoc (units x.q st.first_unit st.units) h.stage.others h.post)
-      ∙ ap (λ l. l ++ h.post) (sym h.stage.is) ∙ one.2 in
+      cc (append_assoc (units x.q st.first_unit st.units) h.stage.others h.post, h.stage.is, one.2) in
       unit-at x.q st.first_unit st.units one.0 (h.stage.others ++ h.post) s r e (omega arith)
       ∙ ap (λ z. x.q ^ (st.first_unit + z)) (let e : length one.0 ≡ length c - st.begin = omega arith in e)
 
   early-at : (st : Stage) → stage_after x c ≡ st → has_units x c ≡ false → length c < st.begin + st.units
   early-at st e h =
       let t : nat_le (st.begin + st.units) (length c) ≡ false =
-      subst (λ (z : Stage). nat_le (z.begin + z.units) (length c) ≡ false) e h in
+      rw e at h in
       grind (arith, nat_tests, t)
 
   some-missing : (st : Stage) → stage_after x c ≡ st → At x f c (r ∷ s) laid st → length c < x.w + x.n
       → (st.end ≡ x.w → length c < x.w) → (st.end ≡ x.w) ⊎ (st.end ≡ x.w + x.n) → 0 < missing x c
   some-missing st e h short less which =
-      let at : missing x c ≡ st.end - length c = ap (λ (z : Stage). z.end - length c) e in
+      let at : missing x c ≡ st.end - length c = cc in
       elim which [
         | inl k ↦ (let l = less k in omega arith)
         | inr k ↦ omega arith
@@ -198,8 +197,8 @@ module _ (x : Strata) (f : IsField x.q) (c s : List ℕ) (r : ℕ) (laid : IsLai
   first-later [] behind from b e some l = absurd (omega arith)
   first-later (y ∷ xs) behind from b e some l =
       let same : r ≡ y = cc e in
-      and_from _ _ (subst (λ z. is_later (dimensions_of x) from z ≡ true) (sym same) l.0)
-      (lt-ltb r b (subst (λ z. z < b) (sym same) l.1))
+      and_from _ _ (rw same l.0)
+      (lt-ltb r b (rw same l.1))
 
   pub follows : may_follow x c r ≡ true
   follows = elim (cases_Bool (has_units x c)) [
@@ -209,7 +208,7 @@ module _ (x : Strata) (f : IsField x.q) (c s : List ℕ) (r : ℕ) (laid : IsLai
           | inl q ↦ some-missing (one x f c (r ∷ s) laid) q.0 q.1 short (λ e. elim (cases_lt (length c) x.w) [
             | inl l ↦ l
             | inr high ↦
-                absurd (let e' : nat_lt (length c) x.w ≡ false = le-ltb (length c) x.w high in
+                absurd (let e' = le-ltb (length c) x.w high in
                 let b : x.w ≡ 0 = (let z = ap (λ (z : Stage). z.begin) (sym q.0
                 ∙ cond-false (nat_lt (length c) x.w) (one x f c (r ∷ s) laid) (two x f c (r ∷ s) laid) e') in sym z) in
                 let z = ap (λ (z : Stage). z.end) (sym q.0
@@ -230,9 +229,7 @@ module _ (x : Strata) (f : IsField x.q) (c s : List ℕ) (r : ℕ) (laid : IsLai
         (is_later (dimensions_of x) (stage_after x c).first_unit r && nat_lt r (bound x c))
         (eqb r (x.q ^ ((stage_after x c).first_unit + (length c - (stage_after x c).begin)))) o
         ∙ elim (found x f c (r ∷ s) laid) [
-          | inl q ↦ subst (λ (z : Stage). eqb r (x.q ^ (z.first_unit + (length c - z.begin))) ≡ true) (sym q.0)
-              (eq-eqb _ _ (at-unit (one x f c (r ∷ s) laid) q.1 (early-at (one x f c (r ∷ s) laid) q.0 o)))
-          | inr q ↦ subst (λ (z : Stage). eqb r (x.q ^ (z.first_unit + (length c - z.begin))) ≡ true) (sym q.0)
-              (eq-eqb _ _ (at-unit (two x f c (r ∷ s) laid) q.1 (early-at (two x f c (r ∷ s) laid) q.0 o)))
+          | inl q ↦ rw q.0 (eq-eqb _ _ (at-unit (one x f c (r ∷ s) laid) q.1 (early-at (one x f c (r ∷ s) laid) q.0 o)))
+          | inr q ↦ rw q.0 (eq-eqb _ _ (at-unit (two x f c (r ∷ s) laid) q.1 (early-at (two x f c (r ∷ s) laid) q.0 o)))
         ]
   ]

@@ -31,9 +31,9 @@ module _ (q m : ℕ) (f : IsField q) where
   none_of : (k : ℕ) (rows : List (List ℕ)) → total q m f (counted q m f is_zero k) rows ≡ 0 → (u : List ℕ)
       → IsVector q (length rows) u → weight u ≡ k → combination q m u rows ≡ zeros m → ⊥
   none_of k rows h u hu e z =
-      let some : 0 < q = omega (arith, f.more_than_one) in
+      let some : 0 < q = omega arith in
       let at : List ℕ → ℕ = λ u. counted q m f is_zero k (weight u) (combination q m u rows) in
-      let none : at u ≡ 0 =
+      let none =
       points-each q (length rows) some (λ u. at u ≡ 0)
       (All-from_recursion (λ u. at u ≡ 0) (points q (length rows)) (each-none at (points q (length rows)) h)) u hu in
       not-both (is_zero (combination q m u rows) && eqb (weight u) k) none

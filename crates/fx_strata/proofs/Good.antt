@@ -43,7 +43,7 @@ pub key-same : (order : Order) (u v : Figures) → ((b : Bool) (k : ℕ) → u.w
     → key_of order u ≡ key_of order v
 key-same [] u v same alike = refl
 key-same (part ∷ order) u v same alike =
-    ap₂ (λ a l. a ∷ l) (part-same part u v same alike) (key-same order u v same alike)
+    cc (part-same part u v same alike, key-same order u v same alike)
 
 -- of fewer words the key is not greater
 part-less : (u v : Figures) → ((b : Bool) (k : ℕ) → u.words b k ≤ v.words b k) → u.unclear ≤ v.unclear
@@ -61,7 +61,7 @@ still-better : (beat : Option (List ℕ)) (a b : List ℕ) → length a ≡ leng
     → is_better beat b ≡ true → is_better beat a ≡ true
 still-better None a b len few h = refl
 still-better (Some key) a b len few h = elim (less-either b a (sym len) few) [
-  | inl same ↦ ap (λ l. is_less l key) same ∙ h
+  | inl same ↦ cc same
   | inr less ↦ less-trans a b key less h
 ]
 
@@ -76,8 +76,8 @@ place-below b (suc n) [] h = absurd (let e = h.len in omega arith)
 place-below b zero (a ∷ v) h = absurd (let e = h.len in omega arith)
 place-below b (suc n) (a ∷ v) h =
     let len : length v ≡ n = (let e = h.len in omega arith) in
-    let rest : place b v < b ^ n = place-below b n v (record { len = len; codes = h.codes.1 }) in
-    let wide = mul-le-mul_left {m = a + 1} {n = b} (b ^ n) (omega (arith, h.codes.0)) in
+    let rest = place-below b n v (record { len = len; codes = h.codes.1 }) in
+    let wide = mul-le-mul_left {m = a + 1} {n = b} (b ^ n) (omega arith) in
     rw (len, pow-suc b n) (grind (arith, rest, wide))
 
 -- what stands before is of greater place
@@ -129,20 +129,20 @@ module _ (x : Claim) (f : IsField x.strata.q) where
       → AllByRecursion IsClosed (map (λ r. c ++ r ∷ []) (filter p (falling n))) → IsClosed (c ++ r ∷ [])
   each-at c p zero r low h all = absurd (omega arith)
   each-at c p (suc n) r low h all =
-      let rest : List ℕ = filter p (falling n) in
+      let rest = filter p (falling n) in
       elim (cases_Bool (p n)) [
         | inl t ↦
             let all' : IsClosed (c ++ n ∷ []) × AllByRecursion IsClosed (map (λ r. c ++ r ∷ []) rest) =
-            subst (λ l. AllByRecursion IsClosed (map (λ r. c ++ r ∷ []) l)) (cond-true (p n) (n ∷ rest) rest t) all in
+            rw (cond-true (p n) (n ∷ rest) rest t) at all in
             elim (cases_eq r n) [
-              | inl e ↦ subst (λ z. IsClosed (c ++ z ∷ [])) (sym e) all'.0
+              | inl e ↦ rw e all'.0
               | inr ne ↦ each-at c p n r (omega arith) h all'.1
             ]
         | inr o ↦
             let all' : AllByRecursion IsClosed (map (λ r. c ++ r ∷ []) rest) =
-            subst (λ l. AllByRecursion IsClosed (map (λ r. c ++ r ∷ []) l)) (cond-false (p n) (n ∷ rest) rest o) all in
+            rw (cond-false (p n) (n ∷ rest) rest o) at all in
             elim (cases_eq r n) [
-              | inl e ↦ absurd (both_ways (p n) o (subst (λ z. p z ≡ true) e h))
+              | inl e ↦ absurd (both_ways (p n) o (rw e at h))
               | inr ne ↦ each-at c p n r (omega arith) h all'
             ]
       ]
@@ -152,7 +152,7 @@ module _ (x : Claim) (f : IsField x.strata.q) where
       absurd (let e = first.design.laid.len in let e' = length-append c [] in omega arith)
   closed_by_children c part h (r ∷ s) first =
       let lows = (each-append_parts (λ r. r < st.q ^ st.m) c (r ∷ s) (low st f c (r ∷ s) first.design.laid)).1 in
-      let k : IsClosed (c ++ r ∷ []) =
+      let k =
       each-at c (may_follow st c) (st.q ^ st.m) r lows.0 (follows st f c s r first.design.laid) h in
       k s (subst IsFirst (sym (append_assoc c (r ∷ []) s)) first)
 
@@ -171,8 +171,7 @@ module _ (x : Claim) (f : IsField x.strata.q) where
   image-closes c s change h first =
       let e = earlier_for_each st f c s change h first.design in
       first.none_before e.0 e.1.design
-      (ap (is_better x.beat) (key-same x.order (figures st e.0) (figures st (c ++ s)) e.1.words e.1.unclear)
-      ∙ first.is_better)
+      (cc (key-same x.order (figures st e.0) (figures st (c ++ s)) e.1.words e.1.unclear, first.is_better))
       e.1.earlier
 
   turns_close : (todo : List (List ℕ)) (es : List Entry) → are_in_turn x todo es ≡ true → AllByRecursion IsClosed todo
@@ -185,7 +184,7 @@ module _ (x : Claim) (f : IsField x.strata.q) where
       entry : (e : Entry) → is_right x c e ≡ true → AllByRecursion IsClosed (turns_after x c e cs)
           → AllByRecursion IsClosed (c ∷ cs)
       entry (Branch r) right k =
-          let part : length c < size = ltb-true _ _ (and_parts (eqb r (last_row c)) (nat_lt (length c) size) right).1 in
+          let part = ltb-true _ _ (and_parts (eqb r (last_row c)) (nat_lt (length c) size) right).1 in
           let parts = each-append_parts IsClosed (children st c) cs k in
           (closed_by_children c part parts.0, parts.1)
       entry (Worse r) right k = (
@@ -215,7 +214,7 @@ module _ (x : Claim) (f : IsField x.strata.q) where
     none_from : (left : ℕ) (rows : List ℕ) → IsDesign st rows → better rows ≡ true
         → (st.q ^ st.m) ^ size < place (st.q ^ st.m) rows + left → ⊥
     none_from zero rows design b h =
-        let under : place (st.q ^ st.m) rows < (st.q ^ st.m) ^ size =
+        let under =
         place-below (st.q ^ st.m) size rows
         (record { len = design.laid.len; codes = low st f [] rows design.laid }) in
         omega arith
@@ -223,7 +222,7 @@ module _ (x : Claim) (f : IsField x.strata.q) where
       design = design;
       is_better = b;
       none_before = λ other D b' before.
-          let more : place (st.q ^ st.m) rows < place (st.q ^ st.m) other =
+          let more =
           before-place (st.q ^ st.m) other rows (D.laid.len ∙ sym design.laid.len) (low st f [] other D.laid)
           (low st f [] rows design.laid) before in
           none_from left other D b' (omega arith);
@@ -234,15 +233,17 @@ module _ (x : Claim) (f : IsField x.strata.q) where
         let r = canonical_for_every st f blocks factors many stratified in
         none_from (suc ((st.q ^ st.m) ^ size)) r.0 r.1.design
         (still-better x.beat (key_of x.order (figures st r.0)) (key_of_design st x.order blocks factors)
-        (ap (λ (l : List ℕ). length l) refl ∙ length-map x.order (part_of (figures st r.0))
-        ∙ sym (length-map x.order (part_of (figures_of st (base_of st blocks factors) factors))))
+        (cc (
+          length-map x.order (part_of (figures st r.0)),
+          length-map x.order (part_of (figures_of st (base_of st blocks factors) factors)),
+        ))
         (key-less x.order (figures st r.0) (figures_of st (base_of st blocks factors) factors) r.1.words r.1.unclear) b)
         (omega arith))
 
     pub least_of_all : HasFactors st → LeastOfAll x
     least_of_all many rows tested is =
-        let D : IsDesign st rows = designs_are_tested st rows tested in
-        let key : key_of_design st x.order (base st) (vectors_of st.q st.m rows) ≡ key_of x.order (figures st rows) =
+        let D = designs_are_tested st rows tested in
+        let key =
         key-same x.order (figures_of st (base_of st (base st) (vectors_of st.q st.m rows)) (vectors_of st.q st.m rows))
         (figures st rows) (same st f rows D) (same-unclear st f rows D) in
         record {

@@ -1,45 +1,43 @@
 -- Isomorphic designs have one key.
-use Rattle.std.proofs.Common.{ℕ, ◌≡◌, ◌<◌, ◌≤◌, ◌+◌, ◌-◌, zero, suc, Bool, true, false, not, cond, eqb, ◌&&◌, ◌||◌}
+use Rattle.std.proofs.Common.{ℕ, ◌≡◌, ◌<◌, ◌≤◌, zero, suc, Bool, true, false, cond, eqb}
 use Rattle.std.proofs.Common.{List, [], ◌∷◌, ◌++◌, map, length, take, refl, sym, subst, ◌∙◌, ap, ap₂, arith, inl, inr}
-use Rattle.std.specs.Prelude.{nat_lt, All}
+use Rattle.std.specs.Prelude.{All}
 use Rattle.std.proofs.lemmas.Bool.{cases_Bool, cond-true, cond-false, ne_eqb}
 use Rattle.std.proofs.lemmas.List.{length-map}
 use Rattle.std.proofs.lemmas.List.Elements.{recursion_from_All, All-from_recursion}
 use Rattle.fx_base.proofs.Lists.{each-append, each-take}
 use Rattle.fx_designs.specs.Galois.{inv, IsField}
-use Rattle.fx_designs.specs.Vectors.{IsVector, scale, weight, is_zero, combination}
+use Rattle.fx_designs.specs.Vectors.{IsVector, scale, is_zero, combination}
 use Rattle.fx_designs.specs.Spans.{in_span, rank_of, rank_after}
 use Rattle.fx_laws.specs.Changes.{IsChange}
-use Rattle.fx_laws.specs.Spans.{InSpan}
 use Rattle.fx_laws.specs.Scalings.{AreScalars, scaled, times}
-use Rattle.fx_laws.proofs.Linear.{dot-scale}
-use Rattle.fx_laws.proofs.Space.{ext, AreVectors, scale-vector, combination-vector}
+use Rattle.fx_laws.proofs.Space.{AreVectors, scale-vector, combination-vector}
 use Rattle.fx_laws.proofs.Tests.{bool_same}
 use Rattle.fx_laws.proofs.Ranks.{in_span-true, in_span-holds, map-vectors, in_span-change, rank-change}
-use Rattle.fx_laws.proofs.Raises.{scale-combination}
 use Rattle.fx_laws.proofs.Forms.{inv-positive, scale-one}
 use Rattle.fx_laws.proofs.Scalings.{scale-scale, scaled-combination, scaled-length, scaled-vectors, times-vector}
 use Rattle.fx_strata.specs.Designs.{Strata, Order, Words, Unclear, base_of, words_of, unclear_of}
 use Rattle.fx_strata.specs.Designs.{IsStratified, IsLeast, NoneLess}
 use Rattle.fx_strata.specs.Words.{words_in}
-use Rattle.fx_strata.specs.Sums.{is_in_base, sums_of, effects_at, is_unclear_sum}
+use Rattle.fx_strata.specs.Sums.{is_in_base, sums_of, is_unclear_sum}
 use Rattle.fx_strata.specs.Laws.{IsAlike, IsomorphicAreAlike, AlikeHaveOneKey, IsomorphicAreLeast}
 use Rattle.fx_strata.proofs.Totals.{total, total-same, total-changed, total-scaled, counted}
 use Rattle.fx_strata.proofs.Runs.{words-are-sums}
 use Rattle.fx_strata.proofs.Unclear.{unclear-are-sums, zero-changed}
 use Rattle.fx_strata.proofs.Alike.{same_clear}
+use Rattle.fx_words.proofs.Alike.{scaled_sum}
 
 pub take-changed : (a : List ℕ → List ℕ) (w : ℕ) (rows : List (List ℕ)) → take w (map a rows) ≡ map a (take w rows)
 take-changed a zero rows = refl
 take-changed a (suc w) [] = refl
-take-changed a (suc w) (r ∷ rows) = ap (λ z. a r ∷ z) (take-changed a w rows)
+take-changed a (suc w) (r ∷ rows) = cc (take-changed a w rows)
 
 pub take-scaled : (q w : ℕ) (cs : List ℕ) (rows : List (List ℕ))
     → take w (scaled q cs rows) ≡ scaled q (take w cs) (take w rows)
 take-scaled q zero cs rows = refl
 take-scaled q (suc w) [] rows = refl
 take-scaled q (suc w) (c ∷ cs) [] = refl
-take-scaled q (suc w) (c ∷ cs) (r ∷ rows) = ap (λ z. scale q c r ∷ z) (take-scaled q w cs rows)
+take-scaled q (suc w) (c ∷ cs) (r ∷ rows) = cc (take-scaled q w cs rows)
 
 pub take-as-many : (w : ℕ) (cs : List ℕ) (rows : List (List ℕ)) → length cs ≡ length rows
     → length (take w cs) ≡ length (take w rows)
@@ -47,34 +45,27 @@ take-as-many zero cs rows e = refl
 take-as-many (suc w) [] [] e = refl
 take-as-many (suc w) [] (r ∷ rows) e = absurd (omega arith)
 take-as-many (suc w) (c ∷ cs) [] e = absurd (omega arith)
-take-as-many (suc w) (c ∷ cs) (r ∷ rows) e = ap (λ (n : ℕ). suc n) (take-as-many w cs rows (omega arith))
+take-as-many (suc w) (c ∷ cs) (r ∷ rows) e = cc (take-as-many w cs rows (omega arith))
 
 scaled-push : (q : ℕ) (cs : List ℕ) (bs : List (List ℕ)) (d : ℕ) (r : List ℕ) → length cs ≡ length bs
     → scaled q cs bs ++ scale q d r ∷ [] ≡ scaled q (cs ++ d ∷ []) (bs ++ r ∷ [])
 scaled-push q [] [] d r e = refl
 scaled-push q [] (b ∷ bs) d r e = absurd (omega arith)
 scaled-push q (c ∷ cs) [] d r e = absurd (omega arith)
-scaled-push q (c ∷ cs) (b ∷ bs) d r e = ap (λ z. scale q c b ∷ z) (scaled-push q cs bs d r (omega arith))
+scaled-push q (c ∷ cs) (b ∷ bs) d r e = cc (scaled-push q cs bs d r (omega arith))
 
 length-push : (cs : List ℕ) (bs : List (List ℕ)) (d : ℕ) (r : List ℕ) → length cs ≡ length bs
     → length (cs ++ d ∷ []) ≡ length (bs ++ r ∷ [])
 length-push [] [] d r e = refl
 length-push [] (b ∷ bs) d r e = absurd (omega arith)
 length-push (c ∷ cs) [] d r e = absurd (omega arith)
-length-push (c ∷ cs) (b ∷ bs) d r e = ap (λ (n : ℕ). suc n) (length-push cs bs d r (omega arith))
+length-push (c ∷ cs) (b ∷ bs) d r e = cc (length-push cs bs d r (omega arith))
 
 -- spans of multiples
 module _ (q m : ℕ) (f : IsField q) where
-  combination-scale : (c : ℕ) (u : List ℕ) (rows : List (List ℕ)) → AreVectors q m rows
-      → combination q m (scale q c u) rows ≡ scale q c (combination q m u rows)
-  combination-scale c u rows hr =
-      ext q m f _ _ (combination-vector q m f (scale q c u) rows hr)
-      (scale-vector q m f c (combination q m u rows) (combination-vector q m f u rows hr))
-      (λ p. scale-combination q m f c u rows p ∙ sym (dot-scale q f c (combination q m u rows) p))
-
   unscaled : (d : ℕ) (r : List ℕ) → 0 < d → d < q → IsVector q m r → scale q (inv q d) (scale q d r) ≡ r
   unscaled d r some low hr =
-      scale-scale q f (inv q d) d r ∙ ap (λ c. scale q c r) (f.mul_inv d some low) ∙ scale-one q m f r hr
+      cc (scale-scale q f (inv q d) d r, f.mul_inv d some low, scale-one q m f r hr)
 
   all-unscaled : (cs : List ℕ) (rows : List (List ℕ)) → AreScalars q cs → AreVectors q m rows
       → length cs ≡ length rows → scaled q (map (inv q) cs) (scaled q cs rows) ≡ rows
@@ -82,24 +73,27 @@ module _ (q m : ℕ) (f : IsField q) where
   all-unscaled [] (r ∷ rows) h hr e = absurd (omega arith)
   all-unscaled (c ∷ cs) [] h hr e = absurd (omega arith)
   all-unscaled (c ∷ cs) (r ∷ rows) h hr e =
-      ap₂ (λ y ys. y ∷ ys) (unscaled c r h.0.0 h.0.1 hr.0) (all-unscaled cs rows h.1 hr.1 (omega arith))
+      cc (unscaled c r h.0.0 h.0.1 hr.0, all-unscaled cs rows h.1 hr.1 (omega arith))
 
   span-from : (cs : List ℕ) (bs : List (List ℕ)) (d : ℕ) (r : List ℕ) → length cs ≡ length bs → 0 < d → d < q
       → AreVectors q m bs → IsVector q m r → in_span q m (scaled q cs bs) (scale q d r) ≡ true
       → in_span q m bs r ≡ true
   span-from cs bs d r e some low hb hr t =
-      let s : InSpan q m (scaled q cs bs) (scale q d r) =
+      let s =
       in_span-true q m f (scaled q cs bs) (scale q d r) (scaled-vectors q f m cs bs hb)
       (scale-vector q m f d r hr) t in
       let hu : IsVector q (length bs) s.by =
-      subst (λ n. IsVector q n s.by) (scaled-length q f cs bs e) s.vector in
-      let u : List ℕ = times q cs s.by in
+      rw (scaled-length q f cs bs e) at s.vector in
+      let u = times q cs s.by in
       in_span-holds q m f bs r (record {
         by = scale q (inv q d) u;
         vector = scale-vector q (length bs) f (inv q d) u (times-vector q f (length bs) cs s.by e hu);
-        gives = combination-scale (inv q d) u bs hb
-            ∙ ap (scale q (inv q d)) (sym (scaled-combination q f m cs s.by bs e hu.len) ∙ s.gives)
-            ∙ unscaled d r some low hr;
+        gives = cc (
+          scaled_sum q m f (inv q d) u bs hb,
+          scaled-combination q f m cs s.by bs e hu.len,
+          s.gives,
+          unscaled d r some low hr,
+        );
       })
 
   span-multiples : (cs : List ℕ) (bs : List (List ℕ)) (d : ℕ) (r : List ℕ) → AreScalars q cs → length cs ≡ length bs
@@ -110,7 +104,7 @@ module _ (q m : ℕ) (f : IsField q) where
       (λ t. span-from (map (inv q) cs) (scaled q cs bs) (inv q d) (scale q d r)
       (length-map cs (inv q) ∙ e ∙ sym (scaled-length q f cs bs e)) (inv-positive q f d some low) (f.inv_code d)
       (scaled-vectors q f m cs bs hb) (scale-vector q m f d r hr)
-      (ap₂ (in_span q m) (all-unscaled cs bs h hb e) (unscaled d r some low hr) ∙ t))
+      (cc (all-unscaled cs bs h hb e, unscaled d r some low hr)))
 
   rank-multiples : (cs ds : List ℕ) (bs rows : List (List ℕ)) → AreScalars q cs → AreScalars q ds
       → length cs ≡ length bs → length ds ≡ length rows → AreVectors q m bs → AreVectors q m rows
@@ -119,12 +113,13 @@ module _ (q m : ℕ) (f : IsField q) where
   rank-multiples cs [] bs (r ∷ rows) h h' e e' hb hr = absurd (omega arith)
   rank-multiples cs (d ∷ ds) bs [] h h' e e' hb hr = absurd (omega arith)
   rank-multiples cs (d ∷ ds) bs (r ∷ rows) h h' e e' hb hr =
-      ap₂ (λ (i j : ℕ). i + j)
-      (ap (λ b. cond b 0 1) (span-multiples cs bs d r h e h'.0.0 h'.0.1 hb hr.0))
-      (ap (λ z. rank_after q m z (scaled q ds rows)) (scaled-push q cs bs d r e)
-      ∙ rank-multiples (cs ++ d ∷ []) ds (bs ++ r ∷ []) rows
-      (each-append (λ c. (0 < c) × (c < q)) cs (d ∷ []) h (h'.0, tt)) h'.1 (length-push cs bs d r e) (omega arith)
-      (each-append (λ r. IsVector q m r) bs (r ∷ []) hb (hr.0, tt)) hr.1)
+      cc (
+        span-multiples cs bs d r h e h'.0.0 h'.0.1 hb hr.0,
+        scaled-push q cs bs d r e,
+        rank-multiples (cs ++ d ∷ []) ds (bs ++ r ∷ []) rows
+            (each-append (λ c. (0 < c) × (c < q)) cs (d ∷ []) h (h'.0, tt)) h'.1 (length-push cs bs d r e) (omega arith)
+            (each-append (λ r. IsVector q m r) bs (r ∷ []) hb (hr.0, tt)) hr.1,
+      )
 
 module _ (x : Strata) (f : IsField x.q) where
   -- rows of which all sums are those of others behind a
@@ -140,8 +135,7 @@ module _ (x : Strata) (f : IsField x.q) where
     words-same zs' zs hz all T S same k =
         all (counted x.q x.m f T k)
         ∙ total-same x.q x.m f (counted x.q x.m f S k) (λ j v. counted x.q x.m f T k j (a v)) zs zs refl
-        (λ u hu. ap (λ b. cond (b && eqb (weight u) k) 1 0)
-        (same (combination x.q x.m u zs) (combination-vector x.q x.m f u zs hz)))
+        (λ u hu. cc (same (combination x.q x.m u zs) (combination-vector x.q x.m f u zs hz)))
 
     sums-same : (base' base factors' factors : List (List ℕ)) → AreVectors x.q x.m factors → AreBehind factors' factors
         → AreBehind (take x.w factors') (take x.w factors)
@@ -152,11 +146,12 @@ module _ (x : Strata) (f : IsField x.q) where
         words-same factors' factors hf all is_zero is_zero null k
     sums-same base' base factors' factors hf all front null inside true k =
         let same : (v : List ℕ) → IsVector x.q x.m v → is_in_base x base' (a v) ≡ is_in_base x base v =
-        λ v hv. ap₂ (λ z s. not z && s) (null v hv) (inside v hv) in
-        ap₂ (λ (i j : ℕ). i - j)
-        (words-same factors' factors hf all (is_in_base x base') (is_in_base x base) same k)
-        (words-same (take x.w factors') (take x.w factors) (each-take (λ r. IsVector x.q x.m r) x.w factors hf) front
-        (is_in_base x base') (is_in_base x base) same k)
+        λ v hv. cc (null v hv, inside v hv) in
+        cc (
+          words-same factors' factors hf all (is_in_base x base') (is_in_base x base) same k,
+          words-same (take x.w factors') (take x.w factors) (each-take (λ r. IsVector x.q x.m r) x.w factors hf) front
+              (is_in_base x base') (is_in_base x base) same k,
+        )
 
   module _ (blocks factors : List (List ℕ)) (D : IsStratified x blocks factors) where
     abbrev base : List (List ℕ)
@@ -204,10 +199,15 @@ module _ (x : Strata) (f : IsField x.q) where
     module _ (a : List ℕ → List ℕ) (change : IsChange x.q x.m a) where
       base-changed : base_of x (map a blocks) (map a factors) ≡ map a base
       base-changed = elim (cases_Bool (eqb x.w 0)) [
-        | inl t ↦ cond-true (eqb x.w 0) (map a blocks) (take x.w (map a factors)) t
-            ∙ sym (ap (map a) (cond-true (eqb x.w 0) blocks (take x.w factors) t))
-        | inr o ↦ cond-false (eqb x.w 0) (map a blocks) (take x.w (map a factors)) o ∙ take-changed a x.w factors
-            ∙ sym (ap (map a) (cond-false (eqb x.w 0) blocks (take x.w factors) o))
+        | inl t ↦ cc (
+          cond-true (eqb x.w 0) (map a blocks) (take x.w (map a factors)) t,
+          cond-true (eqb x.w 0) blocks (take x.w factors) t,
+        )
+        | inr o ↦ cc (
+          cond-false (eqb x.w 0) (map a blocks) (take x.w (map a factors)) o,
+          take-changed a x.w factors,
+          cond-false (eqb x.w 0) blocks (take x.w factors) o,
+        )
       ]
 
       changed-words : (b : Bool) (k : ℕ) → words_of x (map a base) (map a factors) b k ≡ words_of x base factors b k
@@ -216,9 +216,10 @@ module _ (x : Strata) (f : IsField x.q) where
           (map-vectors x.q x.m f a change factors hf) (let e = length-map factors a in omega (arith, enough)) b k
           ∙ sums-same a (map a base) base (map a factors) factors hf
           (λ g. total-changed x.q x.m f g a change factors hf)
-          (λ g. ap (total x.q x.m f g) (take-changed a x.w factors)
-          ∙ total-changed x.q x.m f g a change (take x.w factors)
-          (each-take (λ r. IsVector x.q x.m r) x.w factors hf))
+          (λ g. cc (
+            take-changed a x.w factors,
+            total-changed x.q x.m f g a change (take x.w factors) (each-take (λ r. IsVector x.q x.m r) x.w factors hf),
+          ))
           (λ v hv. zero-changed x.q x.m f a change v hv)
           (λ v hv. in_span-change x.q x.m f a change base v base-vectors hv) b k
           ∙ sym (words-are-sums x f base factors base-vectors hf enough b k)
@@ -227,8 +228,8 @@ module _ (x : Strata) (f : IsField x.q) where
       by-change =
           alike (map a blocks) (map a factors) (map-vectors x.q x.m f a change blocks hb)
           (map-vectors x.q x.m f a change factors hf) (length-map factors a)
-          (ap (rank_of x.q x.m) base-changed ∙ rank-change x.q x.m f a change [] base tt base-vectors)
-          (λ b k. ap (λ z. words_of x z (map a factors) b k) base-changed ∙ changed-words b k)
+          (cc (base-changed, rank-change x.q x.m f a change [] base tt base-vectors))
+          (λ b k. cc (base-changed, changed-words b k))
           (ap (λ z. unclear_of x z (map a factors)) base-changed
           ∙ (let s = same_clear x f base factors (All-from_recursion (λ r. IsVector x.q x.m r) base base-vectors)
           D.factor_rows in s.change a change))
@@ -242,13 +243,17 @@ module _ (x : Strata) (f : IsField x.q) where
 
       base-scaled : base_of x (scaled x.q bs blocks) (scaled x.q cs factors) ≡ scaled x.q codes base
       base-scaled = elim (cases_Bool (eqb x.w 0)) [
-        | inl t ↦ cond-true (eqb x.w 0) (scaled x.q bs blocks) (take x.w (scaled x.q cs factors)) t
-            ∙ sym (ap₂ (scaled x.q) (cond-true (eqb x.w 0) bs (take x.w cs) t)
-            (cond-true (eqb x.w 0) blocks (take x.w factors) t))
-        | inr o ↦ cond-false (eqb x.w 0) (scaled x.q bs blocks) (take x.w (scaled x.q cs factors)) o
-            ∙ take-scaled x.q x.w cs factors
-            ∙ sym (ap₂ (scaled x.q) (cond-false (eqb x.w 0) bs (take x.w cs) o)
-            (cond-false (eqb x.w 0) blocks (take x.w factors) o))
+        | inl t ↦ cc (
+          cond-true (eqb x.w 0) (scaled x.q bs blocks) (take x.w (scaled x.q cs factors)) t,
+          cond-true (eqb x.w 0) bs (take x.w cs) t,
+          cond-true (eqb x.w 0) blocks (take x.w factors) t,
+        )
+        | inr o ↦ cc (
+          cond-false (eqb x.w 0) (scaled x.q bs blocks) (take x.w (scaled x.q cs factors)) o,
+          take-scaled x.q x.w cs factors,
+          cond-false (eqb x.w 0) bs (take x.w cs) o,
+          cond-false (eqb x.w 0) blocks (take x.w factors) o,
+        )
       ]
 
       -- they are as many, and none is 0
@@ -256,14 +261,16 @@ module _ (x : Strata) (f : IsField x.q) where
       codes-good = elim (cases_Bool (eqb x.w 0)) [
         | inl t ↦ (
           subst (AreScalars x.q) (sym (cond-true (eqb x.w 0) bs (take x.w cs) t)) h,
-          ap (λ (l : List ℕ). length l) (cond-true (eqb x.w 0) bs (take x.w cs) t) ∙ e
-              ∙ sym (ap (λ (l : List (List ℕ)). length l) (cond-true (eqb x.w 0) blocks (take x.w factors) t)),
+          cc (cond-true (eqb x.w 0) bs (take x.w cs) t, cond-true (eqb x.w 0) blocks (take x.w factors) t),
         )
         | inr o ↦ (
           subst (AreScalars x.q) (sym (cond-false (eqb x.w 0) bs (take x.w cs) o))
               (each-take (λ c. (0 < c) × (c < x.q)) x.w cs h'),
-          ap (λ (l : List ℕ). length l) (cond-false (eqb x.w 0) bs (take x.w cs) o) ∙ take-as-many x.w cs factors e'
-              ∙ sym (ap (λ (l : List (List ℕ)). length l) (cond-false (eqb x.w 0) blocks (take x.w factors) o)),
+          cc (
+            cond-false (eqb x.w 0) bs (take x.w cs) o,
+            take-as-many x.w cs factors e',
+            cond-false (eqb x.w 0) blocks (take x.w factors) o,
+          ),
         )
       ]
 
@@ -284,9 +291,11 @@ module _ (x : Strata) (f : IsField x.q) where
       inside : (v : List ℕ) → IsVector x.q x.m v → in_span x.q x.m base' v ≡ in_span x.q x.m base v
       unfolding base'
       inside v hv =
-          ap (in_span x.q x.m (scaled x.q codes base)) (sym (scale-one x.q x.m f v hv))
-          ∙ span-multiples x.q x.m f codes base 1 v codes-good.0 codes-good.1 (omega arith) f.more_than_one
-          base-vectors hv
+          cc (
+            scale-one x.q x.m f v hv,
+            span-multiples x.q x.m f codes base 1 v codes-good.0 codes-good.1 (omega arith) f.more_than_one base-vectors
+                hv,
+          )
 
       scaled-words : (b : Bool) (k : ℕ) → words_of x base' factors' b k ≡ words_of x base factors b k
       unfolding factors'
@@ -294,9 +303,11 @@ module _ (x : Strata) (f : IsField x.q) where
           words-are-sums x f base' factors' hs hg
           (let s = scaled-length x.q f cs factors e' in omega (arith, enough)) b k
           ∙ sums-same (λ v. v) base' base factors' factors hf (λ g. total-scaled x.q x.m f g cs factors h' e')
-          (λ g. ap (total x.q x.m f g) (take-scaled x.q x.w cs factors)
-          ∙ total-scaled x.q x.m f g (take x.w cs) (take x.w factors)
-          (each-take (λ c. (0 < c) × (c < x.q)) x.w cs h') (take-as-many x.w cs factors e'))
+          (λ g. cc (
+            take-scaled x.q x.w cs factors,
+            total-scaled x.q x.m f g (take x.w cs) (take x.w factors) (each-take (λ c. (0 < c) × (c < x.q)) x.w cs h')
+                (take-as-many x.w cs factors e'),
+          ))
           (λ v hv. refl) inside b k
           ∙ sym (words-are-sums x f base factors base-vectors hf enough b k)
 
@@ -306,7 +317,7 @@ module _ (x : Strata) (f : IsField x.q) where
           unclear-are-sums x f base' factors' hs hg
           ∙ words-same (λ v. v) factors' factors' hg (λ g. refl) (is_unclear_sum x base' factors')
           (is_unclear_sum x base factors')
-          (λ v hv. ap (λ i. i || nat_lt 1 (effects_at x.q x.m factors' v)) (inside v hv)) 2
+          (λ v hv. cc (inside v hv)) 2
           ∙ sym (unclear-are-sums x f base factors' base-vectors hg)
           ∙ (let s = same_clear x f base factors (All-from_recursion (λ r. IsVector x.q x.m r) base base-vectors)
           D.factor_rows in s.multiples cs h' e')
@@ -316,22 +327,25 @@ module _ (x : Strata) (f : IsField x.q) where
       by-multiples =
           alike (scaled x.q bs blocks) (scaled x.q cs factors) (scaled-vectors x.q f x.m bs blocks hb) hg
           (scaled-length x.q f cs factors e')
-          (ap (rank_of x.q x.m) base-scaled
-          ∙ rank-multiples x.q x.m f [] codes [] base tt codes-good.0 refl codes-good.1 tt base-vectors)
-          (λ b k. ap (λ z. words_of x z (scaled x.q cs factors) b k) base-scaled ∙ scaled-words b k)
-          (ap (λ z. unclear_of x z (scaled x.q cs factors)) base-scaled ∙ scaled-clear)
+          (cc (
+            base-scaled,
+            rank-multiples x.q x.m f [] codes [] base tt codes-good.0 refl codes-good.1 tt
+                base-vectors,
+          ))
+          (λ b k. cc (base-scaled, scaled-words b k))
+          (cc (base-scaled, scaled-clear))
 
     -- with inside factors block rows say nothing
     by-others : 0 < x.w → (others : List (List ℕ)) → All (λ r. IsVector x.q x.m r) others
         → IsAlike x blocks factors others factors
     by-others some others ho =
-        let no : eqb x.w 0 ≡ false = ne_eqb x.w 0 (λ e. omega arith) in
+        let no = ne_eqb x.w 0 (λ e. omega arith) in
         let same : base_of x others factors ≡ base =
         cond-false (eqb x.w 0) others (take x.w factors) no
         ∙ sym (cond-false (eqb x.w 0) blocks (take x.w factors) no) in
         alike others factors (recursion_from_All (λ r. IsVector x.q x.m r) others ho) hf refl
-        (ap (rank_of x.q x.m) same) (λ b k. ap (λ z. words_of x z factors b k) same)
-        (ap (λ z. unclear_of x z factors) same)
+        (ap (rank_of x.q x.m) same) (λ b k. cc)
+        (cc)
 
 pub isomorphic_are_alike : (x : Strata) → IsField x.q → IsomorphicAreAlike x
 isomorphic_are_alike x f blocks factors D = record {
@@ -343,7 +357,7 @@ isomorphic_are_alike x f blocks factors D = record {
 pub alike_have_one_key : (x : Strata) (order : Order) → AlikeHaveOneKey x order
 alike_have_one_key x [] blocks factors others rows A = refl
 alike_have_one_key x (Words b k ∷ order) blocks factors others rows A =
-    ap₂ (λ y ys. y ∷ ys) (A.words b k) (alike_have_one_key x order blocks factors others rows A)
+    cc (A.words b k, alike_have_one_key x order blocks factors others rows A)
 alike_have_one_key x (Unclear ∷ order) blocks factors others rows A =
     ap₂ (λ y ys. y ∷ ys) A.unclear (alike_have_one_key x order blocks factors others rows A)
 

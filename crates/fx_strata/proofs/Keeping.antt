@@ -6,16 +6,16 @@ use Rattle.std.proofs.lemmas.Bool.{cases_lt, cases_Bool}
 use Rattle.std.proofs.Math.Nat.{pow-le-pow_right}
 use Rattle.std.proofs.lemmas.List.{map-append}
 use Rattle.fx_base.proofs.Lists.{each-append}
-use Rattle.fx_designs.specs.Galois.{IsField, number, digits}
-use Rattle.fx_designs.specs.Vectors.{IsVector, plus, scale, combination, vectors_of}
+use Rattle.fx_designs.specs.Galois.{IsField, digits}
+use Rattle.fx_designs.specs.Vectors.{IsVector, scale, combination, vectors_of}
 use Rattle.fx_designs.specs.Runs.{levels_at}
-use Rattle.fx_designs.specs.Spans.{in_span, rank_of}
+use Rattle.fx_designs.specs.Spans.{in_span}
 use Rattle.fx_laws.specs.Changes.{IsChange, unit, IsShort}
 use Rattle.fx_laws.proofs.Codes.{digits-vector, number-digits}
 use Rattle.fx_laws.proofs.Linear.{levels-scale}
 use Rattle.fx_laws.proofs.Space.{AreVectors, scale-vector, combination-vector}
 use Rattle.fx_laws.proofs.Tests.{bool_same}
-use Rattle.fx_laws.proofs.Changes.{change-combination, zeros-short, unit-vector}
+use Rattle.fx_laws.proofs.Changes.{change-combination, unit-vector}
 use Rattle.fx_laws.proofs.Ranks.{number-same, short-scale, change-injective, spans-none, in_span-true}
 use Rattle.fx_laws.proofs.Prefixes.{number-short, number-unit}
 use Rattle.fx_laws.proofs.Reorders.{units_from}
@@ -29,22 +29,7 @@ use Rattle.fx_strata.specs.Canonical.{base}
 use Rattle.fx_strata.specs.Images.{brings}
 use Rattle.fx_strata.proofs.Moved.{d, in-base, base-in, base-spans}
 use Rattle.fx_strata.proofs.Short.{rank-short}
-
-short-plus : (q k : ℕ) (f : IsField q) (v w : List ℕ) → IsShort k v → IsShort k w → IsShort k (plus q v w)
-short-plus q k f [] w hv hw = hw
-short-plus q k f (a ∷ v) [] hv hw = hv
-short-plus q zero f (a ∷ v) (b ∷ w) hv hw =
-    (rw (hv.0, hw.0) (f.add_zero 0 (omega (arith, f.more_than_one))), short-plus q zero f v w hv.1 hw.1)
-short-plus q (suc k) f (a ∷ v) (b ∷ w) hv hw = short-plus q k f v w hv hw
-
-pub short-combination : (q m k : ℕ) (f : IsField q) (u : List ℕ) (bs : List (List ℕ))
-    → AllByRecursion (λ r. IsShort k r) bs
-    → IsShort k (combination q m u bs)
-short-combination q m k f [] bs h = zeros-short m k
-short-combination q m k f (a ∷ u) [] h = zeros-short m k
-short-combination q m k f (a ∷ u) (r ∷ bs) h =
-    short-plus q k f (scale q a r) (combination q m u bs) (short-scale q k a f r h.0)
-    (short-combination q m k f u bs h.1)
+use Rattle.fx_laws.proofs.Ranks.{short-combination}
 
 pub member-right : (x : ℕ) (xs ys : List ℕ) → IsMember x ys → IsMember x (xs ++ ys)
 member-right x [] ys h = h
@@ -82,16 +67,16 @@ module _ (x : Strata) (f : IsField x.q) (room : x.h ≤ x.m) (change : List ℕ)
       preimage i [] small lows h = absurd h
       preimage i (r ∷ rows) small lows (inr h) = preimage i rows small lows.1 h
       preimage i (r ∷ rows) small lows (inl e) =
-          let pos : 0 < x.q = omega (arith, f.more_than_one) in
-          let v : List ℕ = digits x.q x.m r in
-          let hv : IsVector x.q x.m v = digits-vector x.q x.m r pos in
-          let c : ℕ = normal_factor x.q x.m f (by v) in
-          let w : List ℕ = scale x.q c v in
-          let is : by w ≡ scale x.q c (by v) = levels-scale x.q f (vectors_of x.q x.m change) c v in
-          let hb : IsVector x.q x.m (scale x.q c (by v)) = scale-vector x.q x.m f c (by v) (is-change.vector v hv) in
-          let wide : x.q ^ x.h ≤ x.q ^ x.m = pow-le-pow_right pos room in
-          let here : number x.q v ≡ r = number-digits x.q x.m r pos (omega (arith, lows.0)) in
-          let short : IsShort x.h v = number-short x.q x.m x.h f v hv (omega (arith, lows.0)) in (
+          let pos : 0 < x.q = omega arith in
+          let v = digits x.q x.m r in
+          let hv = digits-vector x.q x.m r pos in
+          let c = normal_factor x.q x.m f (by v) in
+          let w = scale x.q c v in
+          let is = levels-scale x.q f (vectors_of x.q x.m change) c v in
+          let hb = scale-vector x.q x.m f c (by v) (is-change.vector v hv) in
+          let wide = pow-le-pow_right pos room in
+          let here = number-digits x.q x.m r pos (omega arith) in
+          let short = number-short x.q x.m x.h f v hv (omega arith) in (
             w,
             scale-vector x.q x.m f c v hv,
             short-scale x.q x.h c f v short,
@@ -125,22 +110,21 @@ module _ (x : Strata) (f : IsField x.q) (room : x.h ≤ x.m) (change : List ℕ)
       into : (v : List ℕ) → IsVector x.q x.m v → IsShort x.h v → IsShort x.h (by v)
       into v hv s =
           let ws = preimages 0 x.h (omega arith) in
-          let rank : rank_of x.q x.m ws.0 ≡ x.h =
+          let rank =
           rank-lifted x.q x.m f (vectors_of x.q x.m change) (many (d x f room) f change count) 0 x.h [] ws.0
           (omega arith)
           tt ws.1 (spans-none x.q x.m f) ws.3 in
-          let most : rank_of x.q x.m (ws.0 ++ v ∷ []) ≤ x.h =
+          let most =
           rank-short x.q x.m x.h f (ws.0 ++ v ∷ []) room
           (each-append (λ r. IsVector x.q x.m r) ws.0 (v ∷ []) ws.1 (hv, tt))
           (each-append (λ r. IsShort x.h r) ws.0 (v ∷ []) ws.2 (s, tt)) in
-          let more : rank_of x.q x.m (ws.0 ++ v ∷ [])
-          ≡ rank_of x.q x.m ws.0 + cond {A = ℕ} (in_span x.q x.m ws.0 v) 0 1 = rank-snoc x.q x.m f [] ws.0 v in
+          let more = rank-snoc x.q x.m f [] ws.0 v in
           let inside : in_span x.q x.m ws.0 v ≡ true =
           elim (cases_Bool (in_span x.q x.m ws.0 v)) [
             | inl t ↦ t
             | inr out ↦ absurd
-                (let one : cond {A = ℕ} (in_span x.q x.m ws.0 v) 0 1 ≡ 1 = ap (λ b. cond {A = ℕ} b 0 1) out in
-                omega (arith, one, more, most, rank))
+                (let one : cond {A = ℕ} (in_span x.q x.m ws.0 v) 0 1 ≡ 1 = cc in
+                omega arith)
           ] in
           let span = in_span-true x.q x.m f ws.0 v ws.1 hv inside in
           let same : base x ≡ map by ws.0 = units-vectors (d x f room) f 0 x.h (omega arith) ∙ sym ws.3 in
@@ -153,7 +137,7 @@ module _ (x : Strata) (f : IsField x.q) (room : x.h ≤ x.m) (change : List ℕ)
       pub keeps : (v : List ℕ) → IsVector x.q x.m v
           → in_span x.q x.m (base x) (by v) ≡ in_span x.q x.m (base x) v
       keeps v hv =
-          let hb : IsVector x.q x.m (by v) = is-change.vector v hv in
+          let hb = is-change.vector v hv in
           bool_same (in_span x.q x.m (base x) (by v)) (in_span x.q x.m (base x) v)
           (λ e. base-in x f room v hv (from v hv (in-base x f room (by v) hb e)))
           (λ e. base-in x f room (by v) hb (into v hv (in-base x f room v hv e)))

@@ -1,16 +1,16 @@
 -- Canonical designs are designs.
 use Rattle.std.proofs.Common.{ℕ, ◌≡◌, ◌<◌, ◌≤◌, ◌+◌, ◌-◌, ◌^◌, Bool, true, false, not, cond, eqb, ◌&&◌, List, [], ◌∷◌}
-use Rattle.std.proofs.Common.{◌++◌, length, take, drop, refl, sym, subst, ◌∙◌, ap, ap₂, arith, inl, inr, eq-eqb}
+use Rattle.std.proofs.Common.{◌++◌, length, take, drop, refl, sym, subst, ◌∙◌, ap₂, arith, inl, inr, eq-eqb}
 use Rattle.std.proofs.Common.{append-nil, take-append-drop}
 use Rattle.std.specs.List.{AllByRecursion, range_with_len}
 use Rattle.std.proofs.lemmas.Bool.{cases_eq, cond-true, cond-false, ne_eqb, false_from_ne_true, lt-ltb}
 use Rattle.std.proofs.lemmas.List.{length-map, map-append, drop-map}
 use Rattle.std.proofs.lemmas.List.Elements.{All-from_recursion}
-use Rattle.std.specs.Prelude.{nat_lt, ◌||◌}
+use Rattle.std.specs.Prelude.{nat_lt}
 use Rattle.fx_base.proofs.Lists.{each-append_parts, each-take, each-append, each-drop}
-use Rattle.fx_designs.specs.Galois.{IsField, number, digits}
+use Rattle.fx_designs.specs.Galois.{IsField, digits}
 use Rattle.fx_designs.specs.Vectors.{IsVector, weight, is_zero, combination, vectors_of, plus, scale, zeros}
-use Rattle.fx_designs.specs.Spans.{in_span, rank_of}
+use Rattle.fx_designs.specs.Spans.{in_span}
 use Rattle.fx_designs.specs.Problems.{Dimensions}
 use Rattle.fx_designs.specs.Runs.{points}
 use Rattle.fx_laws.specs.Changes.{IsFormedTo}
@@ -24,11 +24,11 @@ use Rattle.fx_laws.proofs.CanonicalTest.{rows-vectors, take-vectors}
 use Rattle.fx_laws.proofs.Sums.{sum_by-same, sum_by-zero}
 use Rattle.fx_laws.proofs.Raises.{none-combination}
 use Rattle.fx_laws.proofs.Weights.{zeros_from_weight}
-use Rattle.fx_strata.proofs.Falls.{formed-units}
+use Rattle.fx_laws.proofs.Falling.{formed-units}
 use Rattle.fx_strata.proofs.Exchanges.{units-vectors}
 use Rattle.fx_strata.specs.Designs.{Strata, base_of, words_of, unclear_of, IsStratified}
 use Rattle.fx_strata.specs.Words.{words_in}
-use Rattle.fx_strata.specs.Sums.{effects_at, is_in_base, is_unclear_sum}
+use Rattle.fx_strata.specs.Sums.{is_in_base, is_unclear_sum}
 use Rattle.fx_strata.specs.Canonical.{dimensions_of, units, base, words, unclear, IsDesign}
 use Rattle.fx_strata.specs.Laws.{CanonicalAreDesigns}
 use Rattle.fx_strata.proofs.Totals.{total, total-cons, total-turned, codes-split, none-first, total-same, counted}
@@ -43,7 +43,7 @@ module _ (x : Strata) (f : IsField x.q) (rows : List ℕ) (D : IsDesign x rows) 
   d = dimensions_of x
 
   some : 0 < x.q
-  some = omega (arith, f.more_than_one)
+  some = omega arith
 
   room : x.h ≤ x.m
   room = D.laid.base
@@ -61,8 +61,11 @@ module _ (x : Strata) (f : IsField x.q) (rows : List ℕ) (D : IsDesign x rows) 
   formed : IsFormedTo x.m 0 bs x.h
   formed = elim (cases_eq x.w 0) [
     | inl e ↦ subst (λ l. IsFormedTo x.m 0 l x.h)
-        (append-nil (units_from x.m 0 x.h) ∙ sym (units-vectors d f 0 x.h (omega (arith, room)))
-        ∙ sym (cond-true (eqb x.w 0) (base x) (take x.w F) (eq-eqb x.w 0 e)))
+        (cc (
+          append-nil (units_from x.m 0 x.h),
+          units-vectors d f 0 x.h (omega (arith, room)),
+          cond-true (eqb x.w 0) (base x) (take x.w F) (eq-eqb x.w 0 e),
+        ))
         (formed-units x.m 0 x.h x.h [] (omega arith) room tt)
     | inr ne ↦ elim (D.laid.first) [
       | inl e ↦ absurd (ne e)
@@ -70,10 +73,13 @@ module _ (x : Strata) (f : IsField x.q) (rows : List ℕ) (D : IsDesign x rows) 
           let range = (each-append_parts (λ r. InRange d f 0 x.h r) (units x.q 0 x.h) st.others
           (subst (AllByRecursion (λ r. InRange d f 0 x.h r)) st.is (stage-range d f 0 x.h (take x.w rows) st))).1 in
           subst (λ l. IsFormedTo x.m 0 l x.h)
-          (ap (λ l. l ++ vectors_of x.q x.m st.others) (sym (units-vectors d f 0 x.h (omega (arith, room))))
-          ∙ sym (map-append (λ r. digits x.q x.m r) (units x.q 0 x.h) st.others)
-          ∙ ap (vectors_of x.q x.m) (sym st.is) ∙ sym (take-vectors x.q x.m x.w rows)
-          ∙ sym (cond-false (eqb x.w 0) (base x) (take x.w F) (ne_eqb x.w 0 ne)))
+          (cc (
+            units-vectors d f 0 x.h (omega (arith, room)),
+            map-append (λ r. digits x.q x.m r) (units x.q 0 x.h) st.others,
+            st.is,
+            take-vectors x.q x.m x.w rows,
+            cond-false (eqb x.w 0) (base x) (take x.w F) (ne_eqb x.w 0 ne),
+          ))
           (formed-units x.m 0 x.h x.h (vectors_of x.q x.m st.others) (omega arith) room
           (shorts x f room st.others range))
     ]
@@ -111,23 +117,24 @@ module _ (x : Strata) (f : IsField x.q) (rows : List ℕ) (D : IsDesign x rows) 
       total-same x.q x.m f (λ j v. 0) (λ j v. g (cond {A = ℕ} (nat_lt 0 c) 1 0 + j) (plus x.q (scale x.q c y) v)) zs zs
       refl
       (λ u hu.
-      let w : List ℕ = combination x.q x.m u zs in
-      let bit : cond {A = ℕ} (nat_lt 0 c) 1 0 ≡ 1 = ap (λ b. cond {A = ℕ} b 1 0) (lt-ltb 0 c pos) in
+      let w = combination x.q x.m u zs in
+      let bit : cond {A = ℕ} (nat_lt 0 c) 1 0 ≡ 1 = cc (lt-ltb 0 c pos) in
       elim (cases_eq (weight u) 0) [
         | inl e ↦
             let none : w ≡ zeros x.m =
-            ap (λ z. combination x.q x.m z zs) (zeros_from_weight u (length zs) hu.len e)
-            ∙ none-combination x.q x.m f (length zs) zs hz in
+            cc (zeros_from_weight u (length zs) hu.len e, none-combination x.q x.m f (length zs) zs hz) in
             let is : plus x.q (scale x.q c y) w ≡ scale x.q c y =
-            ap (plus x.q (scale x.q c y)) none ∙ plus-zero x.q x.m f (scale x.q c y) (scale-vector x.q x.m f c y hy) in
-            ap (λ v. g (cond {A = ℕ} (nat_lt 0 c) 1 0 + weight u) v) is
-            ∙ ap (λ b. cond {A = ℕ} ((not (is_zero (scale x.q c y)) && b)
-            && eqb (cond {A = ℕ} (nat_lt 0 c) 1 0 + weight u) 1) 1 0) (out c pos low)
-            ∙ nothing (not (is_zero (scale x.q c y))) (eqb (cond {A = ℕ} (nat_lt 0 c) 1 0 + weight u) 1)
+            cc (plus-zero x.q x.m f (scale x.q c y) (scale-vector x.q x.m f c y hy)) in
+            cc (
+              out c pos low,
+              nothing (not (is_zero (scale x.q c y)))
+                  (eqb (cond {A = ℕ} (nat_lt 0 c) 1 0 + weight u) 1),
+            )
         | inr ne ↦
-            ap (λ b. cond {A = ℕ} (is_in_base x (base x) (plus x.q (scale x.q c y) w) && b) 1 0)
-            (ne_eqb (cond {A = ℕ} (nat_lt 0 c) 1 0 + weight u) 1 (λ e. omega arith))
-            ∙ never (is_in_base x (base x) (plus x.q (scale x.q c y) w))
+            cc (
+              ne_eqb (cond {A = ℕ} (nat_lt 0 c) 1 0 + weight u) 1 (λ e. omega arith),
+              never (is_in_base x (base x) (plus x.q (scale x.q c y) w)),
+            )
       ])
       ∙ sum_by-zero (points x.q (length zs))
     where
@@ -147,7 +154,7 @@ module _ (x : Strata) (f : IsField x.q) (rows : List ℕ) (D : IsDesign x rows) 
       (λ c. total x.q x.m f (λ j v. g (cond {A = ℕ} (nat_lt 0 c) 1 0 + j) (plus x.q (scale x.q c y) v)) zs)
       ∙ ap₂ (λ (a b : ℕ). a + b) (none-first x.q x.m f g y zs hy hz)
       (sum_by-same _ (λ c. 0) 1 (x.q - 1)
-      (λ c low high. with-code y zs hy hz out c low (omega (arith, f.more_than_one)))
+      (λ c low high. with-code y zs hy hz out c low (omega arith))
       ∙ sum_by-zero (range_with_len 1 (x.q - 1)))
       ∙ (let e : total x.q x.m f g zs + 0 ≡ total x.q x.m f g zs = omega arith in e)
 
@@ -163,11 +170,11 @@ module _ (x : Strata) (f : IsField x.q) (rows : List ℕ) (D : IsDesign x rows) 
   unfolding IsOut
   others-out [] l = tt
   others-out (r ∷ rs) l =
-      let v : List ℕ = digits x.q x.m r in
-      let hv : IsVector x.q x.m v = digits-vector x.q x.m r some in
+      let v = digits x.q x.m r in
+      let hv = digits-vector x.q x.m r some in
       let top : r < x.q ^ x.m =
       subst (λ n. r < x.q ^ n) (let e : x.h + (x.m - x.h) ≡ x.m = omega (arith, room) in e) l.0.high in
-      let here : number x.q v ≡ r = number-digits x.q x.m r some top in
+      let here = number-digits x.q x.m r some top in
       let low = l.0.low in (
         λ c pos small. false_from_ne_true (in_span x.q x.m (base x) (scale x.q c v))
             (λ t. let short = short-number x.q x.m x.h f v hv
@@ -179,15 +186,15 @@ module _ (x : Strata) (f : IsField x.q) (rows : List ℕ) (D : IsDesign x rows) 
   none-confounded : words x rows true 1 ≡ 0
   unfolding words_in
   none-confounded =
-      let W : List (List ℕ) = take x.w F in
-      let Y : List (List ℕ) = drop x.w F in
+      let W = take x.w F in
+      let Y = drop x.w F in
       let hW = each-take (λ r. IsVector x.q x.m r) x.w F hF in
       let hY = each-drop (λ r. IsVector x.q x.m r) x.w F hF in
       let out : AllByRecursion (λ y. IsOut y) Y =
       subst (AllByRecursion (λ y. IsOut y)) (sym (drop-map (λ r. digits x.q x.m r) x.w rows))
       (others-out (drop x.w rows) (stage-range d f x.h (x.m - x.h) (drop x.w rows) D.laid.second)) in
       let same : total x.q x.m f g F ≡ total x.q x.m f g W =
-      ap (total x.q x.m f g) (sym (take-append-drop x.w F)) ∙ total-turned x.q x.m f g W Y ∙ all-more Y W hY hW out in
+      cc (take-append-drop x.w F, total-turned x.q x.m f g W Y, all-more Y W hY hW out) in
       omega arith
 
   count : length F ≡ x.w + x.n
@@ -198,23 +205,22 @@ module _ (x : Strata) (f : IsField x.q) (rows : List ℕ) (D : IsDesign x rows) 
   unfolding words_in
   same-words zs hz k = total-same x.q x.m f (counted x.q x.m f (is_in_base x (base x)) k)
       (counted x.q x.m f (is_in_base x bs) k) zs zs refl
-      (λ u hu. ap (λ b. cond {A = ℕ} ((not (is_zero (combination x.q x.m u zs)) && b) && eqb (weight u) k) 1 0)
-      (same-span (combination x.q x.m u zs) (combination-vector x.q x.m f u zs hz)))
+      (λ u hu. cc (same-span (combination x.q x.m u zs) (combination-vector x.q x.m f u zs hz)))
 
   pub same : (b : Bool) (k : ℕ) → words_of x bs F b k ≡ words x rows b k
   same false k = words-are-sums x f bs F hb hF (omega (arith, count)) false k
-  same true k = words-are-sums x f bs F hb hF (omega (arith, count)) true k
-      ∙ ap₂ (λ (a b : ℕ). a - b) (same-words F hF k)
-      (same-words (take x.w F) (each-take (λ r. IsVector x.q x.m r) x.w F hF) k)
+  same true k = cc (
+    words-are-sums x f bs F hb hF (omega (arith, count)) true k,
+    same-words F hF k,
+    same-words (take x.w F) (each-take (λ r. IsVector x.q x.m r) x.w F hF) k,
+  )
 
   pub same-unclear : unclear_of x bs F ≡ unclear x rows
   unfolding words_in
   same-unclear = unclear-are-sums x f bs F hb hF
       ∙ total-same x.q x.m f (counted x.q x.m f (is_unclear_sum x (base x) F) 2)
       (counted x.q x.m f (is_unclear_sum x bs F) 2) F F refl
-      (λ u hu. ap (λ i. cond {A = ℕ} ((i || nat_lt 1 (effects_at x.q x.m F (combination x.q x.m u F)))
-      && eqb (weight u) 2) 1 0)
-      (same-span (combination x.q x.m u F) (combination-vector x.q x.m f u F hF)))
+      (λ u hu. cc (same-span (combination x.q x.m u F) (combination-vector x.q x.m f u F hF)))
 
   stratified : IsStratified x (base x) F
   stratified = record {
@@ -222,7 +228,7 @@ module _ (x : Strata) (f : IsField x.q) (rows : List ℕ) (D : IsDesign x rows) 
     block_rows = All-from_recursion (λ r. IsVector x.q x.m r) (base x) (rows-vectors x.q x.m f (units x.q 0 x.h));
     factor_rows = All-from_recursion (λ r. IsVector x.q x.m r) F hF;
     base =
-        (let e : rank_of x.q x.m bs + 0 ≡ x.h =
+        (let e =
         rank-formed x.q x.m f 0 x.h [] bs hb (spans-none x.q x.m f) formed in omega arith);
     none_of_one = same false 1 ∙ D.none_of_one;
     none_of_two = same false 2 ∙ D.none_of_two;

@@ -1,5 +1,4 @@
 pub mod Lists
-pub mod Falls
 pub mod Change
 pub mod Exchanges
 mod Entries

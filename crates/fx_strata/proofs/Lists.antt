@@ -80,14 +80,11 @@ under-put r (x ∷ xs) [] falls h = absurd h
 under-put r (x ∷ xs) (y ∷ ys) falls h = elim (cases_lt r x) [
   | inl low ↦
       let low' : r < y = (let e = h.0 in omega arith) in
-      subst (λ z. IsUnder z (put r (y ∷ ys)))
-      (sym (cond-true (nat_lt r x) (x ∷ put r xs) (r ∷ x ∷ xs) (lt-ltb r x low)))
+      rw (cond-true (nat_lt r x) (x ∷ put r xs) (r ∷ x ∷ xs) (lt-ltb r x low))
       (subst (IsUnder (x ∷ put r xs)) (sym (cond-true (nat_lt r y) (y ∷ put r ys) (r ∷ y ∷ ys) (lt-ltb r y low')))
       (h.0, under-put r xs ys falls.1 h.1))
   | inr high ↦
-      subst (λ z. IsUnder z (put r (y ∷ ys)))
-      (sym (cond-false (nat_lt r x) (x ∷ put r xs) (r ∷ x ∷ xs) (le-ltb r x high)))
-      (elim (cases_lt r y) [
+      rw (cond-false (nat_lt r x) (x ∷ put r xs) (r ∷ x ∷ xs) (le-ltb r x high)) (elim (cases_lt r y) [
         | inl low' ↦ subst (IsUnder (r ∷ x ∷ xs))
             (sym (cond-true (nat_lt r y) (y ∷ put r ys) (r ∷ y ∷ ys) (lt-ltb r y low')))
             (omega arith, under-front r x xs ys high falls h.1)
@@ -129,8 +126,7 @@ put_by_swaps r (x ∷ xs) = elim (cases_Bool (nat_lt r x)) [
   | inl t ↦
       let p = put_by_swaps r xs in (
         0 ∷ map (λ k. suc k) p.0,
-        reordered-inside x p.0 (r ∷ xs) ∙ ap (λ z. x ∷ z) p.1
-            ∙ sym (cond-true (nat_lt r x) (x ∷ put r xs) (r ∷ x ∷ xs) t),
+        cc (reordered-inside x p.0 (r ∷ xs), p.1, cond-true (nat_lt r x) (x ∷ put r xs) (r ∷ x ∷ xs) t),
       )
   | inr t ↦ ([], sym (cond-false (nat_lt r x) (x ∷ put r xs) (r ∷ x ∷ xs) t))
 ]
@@ -141,8 +137,7 @@ order_by_swaps (x ∷ xs) =
     let p = order_by_swaps xs in
     let r = put_by_swaps x (falling_order xs) in (
       map (λ k. suc k) p.0 ++ r.0,
-      reordered-append (map (λ k. suc k) p.0) r.0 (x ∷ xs)
-          ∙ ap (reordered r.0) (reordered-inside x p.0 xs ∙ ap (λ z. x ∷ z) p.1) ∙ r.1,
+      cc (reordered-append (map (λ k. suc k) p.0) r.0 (x ∷ xs), reordered-inside x p.0 xs, p.1, r.1),
     )
 
 -- one of the elements is x
@@ -169,7 +164,7 @@ module _ (test : ℕ → Bool) where
   pull_one x (y ∷ ys) none (inl e) = record {
     swaps = [];
     rest = ys;
-    is = ap (λ z. z ∷ ys) e;
+    is = cc;
     kept = sym (cond-false (test y) (y ∷ filter test ys) (filter test ys) (ap test e ∙ none));
     members = λ z h. elim h [ inl e' ↦ inl (inl (sym e ∙ e')) | inr r ↦ inr r ];
   }

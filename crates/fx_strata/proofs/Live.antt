@@ -11,7 +11,7 @@ use Rattle.std.proofs.lemmas.List.{length-map, map-append}
 use Rattle.std.proofs.lemmas.List.Sums.{sum_by-cons}
 use Rattle.std.proofs.lemmas.List.FromFn.{length-range_with_len}
 use Rattle.std.proofs.lemmas.List.Elements.{recursion_from_All}
-use Rattle.fx_designs.specs.Galois.{add, mul, neg, inv, IsField, number, digits, codes_of}
+use Rattle.fx_designs.specs.Galois.{neg, inv, IsField, number, digits, codes_of}
 use Rattle.fx_designs.specs.Vectors.{IsVector, dot, plus, scale, minus, same, zeros, weight, is_zero, combination}
 use Rattle.fx_designs.specs.Vectors.{vectors_of}
 use Rattle.fx_designs.specs.Runs.{points}
@@ -51,7 +51,7 @@ use Rattle.fx_strata.proofs.Clearer.{total-longer}
 
 module _ (q m : ℕ) (f : IsField q) where
   some : 0 < q
-  some = omega (arith, f.more_than_one)
+  some = omega arith
 
   -- of the words of weight k those whose sum has the number n
   abbrev pub hit : ℕ → ℕ → ℕ → List ℕ → ℕ
@@ -68,14 +68,14 @@ module _ (q m : ℕ) (f : IsField q) where
   pub by-number : (g : ℕ → List ℕ → ℕ) (rows : List (List ℕ)) → AreVectors q m rows
       → total q m f g rows ≡ sum_by (λ n. total q m f (at-number g n) rows) (range_with_len 0 (q ^ m))
   by-number g rows hr =
-      let ps : List (List ℕ) = points q (length rows) in
-      let ns : List ℕ = range_with_len 0 (q ^ m) in
+      let ps = points q (length rows) in
+      let ns = range_with_len 0 (q ^ m) in
       let value : List ℕ → ℕ = λ u. g (weight u) (combination q m u rows) in
       sum_by-each value (λ u. sum_by (λ n. at-number g n (weight u) (combination q m u rows)) ns) ps
       (recursion_from_All _ ps (all-points q (length rows) some
       (λ u. value u ≡ sum_by (λ n. at-number g n (weight u) (combination q m u rows)) ns)
       (λ u hu.
-      let below : number q (combination q m u rows) < q ^ m =
+      let below =
       number-below q m (combination q m u rows) (combination-vector q m f u rows hr) in
       sym (sum_by-pick (λ n. value u) (number q (combination q m u rows)) 0 (q ^ m) (omega arith) (omega arith)))))
       ∙ sum_by-swap (λ u n. at-number g n (weight u) (combination q m u rows)) ps ns
@@ -86,18 +86,20 @@ module _ (q m : ℕ) (f : IsField q) where
 
   one-more : (k j : ℕ) → eqb (1 + j) (suc k) ≡ eqb j k
   one-more k j = bool_same (eqb (1 + j) (suc k)) (eqb j k)
-      (λ e. eq-eqb j k (let h : 1 + j ≡ suc k = eqb-true (1 + j) (suc k) e in omega arith))
-      (λ e. eq-eqb (1 + j) (suc k) (let h : j ≡ k = eqb-true j k e in omega arith))
+      (λ e. eq-eqb j k (let h = eqb-true (1 + j) (suc k) e in omega arith))
+      (λ e. eq-eqb (1 + j) (suc k) (let h = eqb-true j k e in omega arith))
 
   weighs-split : (k : ℕ) (r : List ℕ) (rows : List (List ℕ))
       → total q m f (weighs k) (r ∷ rows)
       ≡ total q m f (weighs k) rows
       + sum_by (λ c. total q m f (rest q m f (weighs k) r c) rows) (range_with_len 1 (q - 1))
   weighs-split k r rows =
-      total-cons q m f (weighs k) r rows ∙ codes-split q m f (λ c. total q m f (rest q m f (weighs k) r c) rows)
-      ∙ ap (λ (n : ℕ). n + sum_by (λ c. total q m f (rest q m f (weighs k) r c) rows) (range_with_len 1 (q - 1)))
-      (sum_by-ext _ _ (points q (length rows))
-      (λ u. ap (λ (j : ℕ). cond {A = ℕ} (eqb j k) 1 0) (let e : 0 + weight u ≡ weight u = omega arith in e)))
+      cc (
+        total-cons q m f (weighs k) r rows,
+        codes-split q m f (λ c. total q m f (rest q m f (weighs k) r c) rows),
+        sum_by-ext _ _ (points q (length rows))
+            (λ u. ap (λ (j : ℕ). cond {A = ℕ} (eqb j k) 1 0) (let e : 0 + weight u ≡ weight u = omega arith in e)),
+      )
 
   bit-one : (c : ℕ) → 1 ≤ c → bit q m f c ≡ 1
   bit-one c h = cond-true (nat_lt 0 c) 1 0 (lt-ltb 0 c h)
@@ -106,27 +108,29 @@ module _ (q m : ℕ) (f : IsField q) where
       → total q m f (weighs (suc k)) (r ∷ rows)
       ≡ total q m f (weighs (suc k)) rows + (q - 1) * total q m f (weighs k) rows
   weighs-more k r rows =
-      weighs-split (suc k) r rows
-      ∙ ap (λ (n : ℕ). total q m f (weighs (suc k)) rows + n)
-      (sum_by-same (λ c. total q m f (rest q m f (weighs (suc k)) r c) rows) (λ c. total q m f (weighs k) rows)
-      1 (q - 1)
-      (λ c low high. sum_by-ext _ _ (points q (length rows))
-      (λ u. ap (λ (b : ℕ). cond {A = ℕ} (eqb (b + weight u) (suc k)) 1 0) (bit-one c low)
-      ∙ ap (λ b. cond {A = ℕ} b 1 0) (one-more k (weight u))))
-      ∙ sum_by-constant (total q m f (weighs k) rows) (range_with_len 1 (q - 1))
-      ∙ ap (λ (n : ℕ). n * total q m f (weighs k) rows) (length-range_with_len 1 (q - 1)))
+      cc (
+        weighs-split (suc k) r rows,
+        sum_by-same (λ c. total q m f (rest q m f (weighs (suc k)) r c) rows) (λ c. total q m f (weighs k) rows) 1
+            (q - 1) (λ c low high. sum_by-ext _ _ (points q (length rows))
+            (λ u. ap (λ (b : ℕ). cond {A = ℕ} (eqb (b + weight u) (suc k)) 1 0) (bit-one c low)
+            ∙ ap (λ b. cond {A = ℕ} b 1 0) (one-more k (weight u)))),
+        sum_by-constant (total q m f (weighs k) rows) (range_with_len 1 (q - 1)),
+        length-range_with_len 1 (q - 1),
+      )
 
   none-weigh : (rows : List (List ℕ)) → total q m f (weighs 0) rows ≡ 1
   none-weigh [] = refl
   none-weigh (r ∷ rows) =
-      weighs-split 0 r rows
-      ∙ ap₂ (λ (a b : ℕ). a + b) (none-weigh rows)
-      (sum_by-same (λ c. total q m f (rest q m f (weighs 0) r c) rows) (λ c. 0) 1 (q - 1)
-      (λ c low high. sum_by-ext _ (λ u. 0) (points q (length rows))
-      (λ u. ap (λ (b : ℕ). cond {A = ℕ} (eqb (b + weight u) 0) 1 0) (bit-one c low)
-      ∙ ap (λ b. cond {A = ℕ} b 1 0) (ne_eqb (1 + weight u) 0 (λ e. omega arith)))
-      ∙ sum_by-zero (points q (length rows)))
-      ∙ sum_by-zero (range_with_len 1 (q - 1)))
+      cc (
+        weighs-split 0 r rows,
+        none-weigh rows,
+        sum_by-same (λ c. total q m f (rest q m f (weighs 0) r c) rows) (λ c. 0) 1 (q - 1)
+            (λ c low high. sum_by-ext _ (λ u. 0) (points q (length rows))
+            (λ u. ap (λ (b : ℕ). cond {A = ℕ} (eqb (b + weight u) 0) 1 0) (bit-one c low)
+            ∙ ap (λ b. cond {A = ℕ} b 1 0) (ne_eqb (1 + weight u) 0 (λ e. omega arith)))
+            ∙ sum_by-zero (points q (length rows))),
+        sum_by-zero (range_with_len 1 (q - 1)),
+      )
 
   ones-weigh : (rows : List (List ℕ)) → total q m f (weighs 1) rows ≡ (q - 1) * length rows
   ones-weigh [] = (let e : 0 ≡ (q - 1) * 0 = grind arith in e)
@@ -138,7 +142,7 @@ module _ (q m : ℕ) (f : IsField q) where
   pub pairs-weigh : (rows : List (List ℕ)) → total q m f (weighs 2) rows ≡ pairs q (length rows)
   pairs-weigh [] = refl
   pairs-weigh (r ∷ rows) =
-      weighs-more 1 r rows ∙ ap₂ (λ (a b : ℕ). a + (q - 1) * b) (pairs-weigh rows) (ones-weigh rows)
+      cc (weighs-more 1 r rows, pairs-weigh rows, ones-weigh rows)
 
   -- of one factor or two
   parted : (e : Bool) (j : ℕ) → cond {A = ℕ} (e && is_effect j) 1 0
@@ -148,19 +152,22 @@ module _ (q m : ℕ) (f : IsField q) where
   parted true (suc zero) = refl
   parted true (suc (suc zero)) = refl
   parted true (suc (suc (suc j))) =
-      let one : eqb (suc (suc (suc j))) 1 ≡ false = ne_eqb (suc (suc (suc j))) 1 (λ e. omega arith) in
-      let two : eqb (suc (suc (suc j))) 2 ≡ false = ne_eqb (suc (suc (suc j))) 2 (λ e. omega arith) in
+      let one = ne_eqb (suc (suc (suc j))) 1 (λ e. omega arith) in
+      let two = ne_eqb (suc (suc (suc j))) 2 (λ e. omega arith) in
       rw (one, two) refl
 
   pub effects-parts : (rows : List (List ℕ)) (v : List ℕ)
       → effects_at q m rows v ≡ spread q m rows 1 (number q v) + spread q m rows 2 (number q v)
   effects-parts rows v =
-      effects-total q m f rows v
-      ∙ sum_by-ext _ _ (points q (length rows))
-      (λ u. parted (eqb (number q (combination q m u rows)) (number q v)) (weight u))
-      ∙ sum_by-plus (λ u. hit 1 (number q v) (weight u) (combination q m u rows))
-      (λ u. hit 2 (number q v) (weight u) (combination q m u rows)) (points q (length rows))
-      ∙ ap₂ (λ (a b : ℕ). a + b) (sym (spread-total rows 1 (number q v))) (sym (spread-total rows 2 (number q v)))
+      cc (
+        effects-total q m f rows v,
+        sum_by-ext _ _ (points q (length rows))
+            (λ u. parted (eqb (number q (combination q m u rows)) (number q v)) (weight u)),
+        sum_by-plus (λ u. hit 1 (number q v) (weight u) (combination q m u rows))
+            (λ u. hit 2 (number q v) (weight u) (combination q m u rows)) (points q (length rows)),
+        spread-total rows 1 (number q v),
+        spread-total rows 2 (number q v),
+      )
 
   -- a vector is once among all
   fold : (e s : Bool) (c a : ℕ) → cond {A = ℕ} (e && s) 1 0 ≡ cond e (cond {A = ℕ} s 1 0) 0
@@ -178,12 +185,12 @@ module _ (q m : ℕ) (f : IsField q) where
   once (suc n) [] h = absurd (let e = h.len in omega arith)
   once (suc n) (a ∷ u) h =
       let hu : IsVector q n u = record { len = (let e = h.len in omega arith); codes = h.codes.1 } in
-      let low : a < q = h.codes.0 in
-      let inner : ℕ = sum_by (λ p. cond {A = ℕ} (same u p) 1 0) (points q n) in
+      let low = h.codes.0 in
+      let inner = sum_by (λ p. cond {A = ℕ} (same u p) 1 0) (points q n) in
       points-sum q n (λ w. cond {A = ℕ} (same (a ∷ u) w) 1 0)
       ∙ sum_by-ext _ (λ c. cond (eqb c a) inner 0) (codes_of q) (λ c.
       sum_by-ext _ (λ p. cond (eqb c a) (cond {A = ℕ} (same u p) 1 0) 0) (points q n)
-      (λ p. fold (eqb a c) (same u p) c a ∙ ap (λ b. cond b (cond {A = ℕ} (same u p) 1 0) 0) (eqb_comm a c))
+      (λ p. cc (fold (eqb a c) (same u p) c a, eqb_comm a c))
       ∙ pick-cond (eqb c a) (points q n) (λ p. cond {A = ℕ} (same u p) 1 0))
       ∙ sum_by-pick (λ c. inner) a 0 q (omega arith) (omega arith)
       ∙ once n u hu
@@ -258,7 +265,7 @@ module _ (q m : ℕ) (f : IsField q) where
   -- a multiple is a change of the run indexes
   scale-zeros : (c n : ℕ) → scale q c (zeros n) ≡ zeros n
   scale-zeros c zero = refl
-  scale-zeros c (suc n) = ap₂ (λ (x : ℕ) (w : List ℕ). x ∷ w) (f.mul_zero c) (scale-zeros c n)
+  scale-zeros c (suc n) = cc (f.mul_zero c, scale-zeros c n)
 
   pub scaling : (c : ℕ) → 0 < c → c < q → IsChange q m (λ v. scale q c v)
   scaling c pos low = record {
@@ -266,15 +273,18 @@ module _ (q m : ℕ) (f : IsField q) where
     sums = λ v w hv hw. ext q m f (scale q c (plus q v w)) (plus q (scale q c v) (scale q c w))
         (scale-vector q m f c (plus q v w) (plus-vector q m f v w hv hw))
         (plus-vector q m f (scale q c v) (scale q c w) (scale-vector q m f c v hv) (scale-vector q m f c w hw))
-        (λ p. dot-scale q f c (plus q v w) p ∙ ap (mul q c) (dot-plus q f v w p)
-        ∙ f.distributes c (dot q v p) (dot q w p)
-        ∙ ap₂ (add q) (sym (dot-scale q f c v p)) (sym (dot-scale q f c w p))
-        ∙ sym (dot-plus q f (scale q c v) (scale q c w) p));
+        (λ p. cc (
+          dot-scale q f c (plus q v w) p,
+          dot-plus q f v w p,
+          f.distributes c (dot q v p) (dot q w p),
+          dot-scale q f c v p,
+          dot-scale q f c w p,
+          dot-plus q f (scale q c v) (scale q c w) p,
+        ));
     multiples = λ a v hv.
-        scale-scale q f c a v ∙ ap (λ z. scale q z v) (f.mul_comm a c) ∙ sym (scale-scale q f a c v);
+        cc (scale-scale q f c a v, f.mul_comm a c, scale-scale q f a c v);
     zero_alone = λ v hv e.
-        sym (scale-scale q f (inv q c) c v ∙ ap (λ a. scale q a v) (f.mul_inv c pos low) ∙ scale-one q m f v hv)
-        ∙ ap (scale q (inv q c)) e ∙ scale-zeros (inv q c) m;
+        cc (scale-scale q f (inv q c) c v, f.mul_inv c pos low, scale-one q m f v hv, scale-zeros (inv q c) m);
   }
 
   pub are-scalars : (c : ℕ) → 0 < c → c < q → (rows : List (List ℕ)) → AreScalars q (map (λ r. c) rows)
@@ -283,22 +293,23 @@ module _ (q m : ℕ) (f : IsField q) where
 
   pub each-scaled : (c : ℕ) (rows : List (List ℕ)) → scaled q (map (λ r. c) rows) rows ≡ map (λ v. scale q c v) rows
   each-scaled c [] = refl
-  each-scaled c (r ∷ rows) = ap (λ l. scale q c r ∷ l) (each-scaled c rows)
+  each-scaled c (r ∷ rows) = cc (each-scaled c rows)
 
   pub spread-scaled : (c : ℕ) → 0 < c → c < q → (rows : List (List ℕ)) → AreVectors q m rows → (k : ℕ) (v : List ℕ)
       → IsVector q m v → spread q m rows k (number q (scale q c v)) ≡ spread q m rows k (number q v)
   spread-scaled c pos low rows hr k v hv =
-      let n : ℕ = number q (scale q c v) in
-      spread-total rows k n
-      ∙ sym (total-scaled q m f (hit k n) (map (λ r. c) rows) rows (are-scalars c pos low rows)
-      (length-map rows (λ r. c)))
-      ∙ ap (total q m f (hit k n)) (each-scaled c rows)
-      ∙ total-changed q m f (hit k n) (λ v. scale q c v) (scaling c pos low) rows hr
-      ∙ total-same q m f (hit k (number q v)) (λ j s. hit k n j (scale q c s)) rows rows refl
-      (λ u hu. ap (λ b. cond {A = ℕ} (b && eqb (weight u) k) 1 0)
-      (same-number q m f (λ v. scale q c v) (scaling c pos low) v (combination q m u rows) hv
-      (combination-vector q m f u rows hr)))
-      ∙ sym (spread-total rows k (number q v))
+      let n = number q (scale q c v) in
+      cc (
+        spread-total rows k n,
+        total-scaled q m f (hit k n) (map (λ r. c) rows) rows (are-scalars c pos low rows) (length-map rows (λ r. c)),
+        each-scaled c rows,
+        total-changed q m f (hit k n) (λ v. scale q c v) (scaling c pos low) rows hr,
+        total-same q m f (hit k (number q v)) (λ j s. hit k n j (scale q c s)) rows rows refl
+            (λ u hu. ap (λ b. cond {A = ℕ} (b && eqb (weight u) k) 1 0)
+            (same-number q m f (λ v. scale q c v) (scaling c pos low) v (combination q m u rows) hv
+            (combination-vector q m f u rows hr))),
+        spread-total rows k (number q v),
+      )
 
   none-either : (b : Bool) → cond {A = ℕ} b 0 0 ≡ 0
   none-either true = refl
@@ -309,26 +320,26 @@ module _ (q m : ℕ) (f : IsField q) where
       → total q m f (λ j v. cond (eqb n (number q v)) (cond {A = ℕ} (G v && eqb j k) 1 0) 0) rows
       ≡ cond (G (digits q m n)) (spread q m rows k n) 0
   at-pick n rows hr G k =
-      let dn : List ℕ = digits q m n in
-      total-same q m f (λ j v. cond (G dn) (hit k n j v) 0)
-      (λ j v. cond (eqb n (number q v)) (cond {A = ℕ} (G v && eqb j k) 1 0) 0) rows rows refl
-      (λ u hu.
-      let v : List ℕ = combination q m u rows in
-      let hv : IsVector q m v = combination-vector q m f u rows hr in
-      let b : Bool = eqb (weight u) k in
-      elim (cases_eq n (number q v)) [
-        | inl e ↦
-            let is : v ≡ dn = sym (digits-number q m v hv) ∙ ap (digits q m) (sym e) in
-            cond-true (eqb n (number q v)) (cond {A = ℕ} (G v && b) 1 0) 0 (eq-eqb n (number q v) e)
-            ∙ ap (λ z. cond {A = ℕ} (G z && b) 1 0) is ∙ fold (G dn) b 0 0
-            ∙ ap (λ t. cond (G dn) (cond {A = ℕ} (t && b) 1 0) 0) (sym (eq-eqb (number q v) n (sym e)))
-        | inr ne ↦
-            cond-false (eqb n (number q v)) (cond {A = ℕ} (G v && b) 1 0) 0 (ne_eqb n (number q v) ne)
-            ∙ sym (ap (λ t. cond (G dn) (cond {A = ℕ} (t && b) 1 0) 0) (ne_eqb (number q v) n (λ e. ne (sym e)))
-            ∙ none-either (G dn))
-      ])
-      ∙ pick-cond (G dn) (points q (length rows)) (λ u. hit k n (weight u) (combination q m u rows))
-      ∙ ap (λ (z : ℕ). cond (G dn) z 0) (sym (spread-total rows k n))
+      let dn = digits q m n in
+      cc (
+        total-same q m f (λ j v. cond (G dn) (hit k n j v) 0)
+            (λ j v. cond (eqb n (number q v)) (cond {A = ℕ} (G v && eqb j k) 1 0) 0) rows rows refl
+            (λ u hu. let v : List ℕ = combination q m u rows in let hv : IsVector q m v = combination-vector q m f u
+            rows
+            hr in let b : Bool = eqb (weight u)
+            k in elim (cases_eq n (number q v)) [
+              | inl e ↦ let is : v ≡ dn = sym (digits-number q m v hv)
+                  ∙ ap (digits q m) (sym e) in cond-true (eqb n (number q v)) (cond {A = ℕ} (G v && b) 1 0) 0
+                  (eq-eqb n (number q v) e) ∙ ap (λ z. cond {A = ℕ} (G z && b) 1 0) is ∙ fold (G dn) b 0 0
+                  ∙ ap (λ t. cond (G dn) (cond {A = ℕ} (t && b) 1 0) 0) (sym (eq-eqb (number q v) n (sym e)))
+              | inr
+                  ne ↦ cond-false (eqb n (number q v)) (cond {A = ℕ} (G v && b) 1 0) 0 (ne_eqb n (number q v) ne)
+                  ∙ sym (ap (λ t. cond (G dn) (cond {A = ℕ} (t && b) 1 0) 0) (ne_eqb (number q v) n (λ e. ne (sym e)))
+                  ∙ none-either (G dn))
+            ]),
+        pick-cond (G dn) (points q (length rows)) (λ u. hit k n (weight u) (combination q m u rows)),
+        spread-total rows k n,
+      )
 
 pub or-parts : (a b : Bool) → (a || b) ≡ false → (a ≡ false) × (b ≡ false)
 or-parts true b e = absurd (cc e)
@@ -378,7 +389,7 @@ module _ (x : Strata) (f : IsField x.q) (room : x.h ≤ x.m) (c s : List ℕ) wh
   hR = rows-vectors x.q x.m f (c ++ s)
 
   positive : 0 < x.q
-  positive = omega (arith, f.more_than_one)
+  positive = omega arith
 
   abbrev L : List ℕ → Bool
   L v = is_live x c v
@@ -422,8 +433,7 @@ module _ (x : Strata) (f : IsField x.q) (room : x.h ≤ x.m) (c s : List ℕ) wh
               let p = or-parts (in_span x.q x.m (base x) d) (nat_lt 1 (effects_at x.q x.m R d)) o in
               let few : effects_at x.q x.m R d ≤ 1 = not-more (effects_at x.q x.m R d) p.1 in
               let sum : effects_at x.q x.m R d ≡ one + two =
-              effects-parts x.q x.m f R d
-              ∙ ap (λ (z : ℕ). spread x.q x.m R 1 z + spread x.q x.m R 2 z) here in
+              cc (effects-parts x.q x.m f R d, here) in
               let t1 : cond (not (U d)) two 0 ≡ two = cond-true (not (U d)) two 0 (ap not o) in
               elim (cases_Bool (L d)) [
                 | inl l ↦
@@ -446,8 +456,8 @@ module _ (x : Strata) (f : IsField x.q) (room : x.h ≤ x.m) (c s : List ℕ) wh
                           let low2 : spread x.q x.m C 2 n < 2 = omega arith in
                           let live : L d ≡ true =
                           and_from _ _ (ap not p.0)
-                          (and_from _ _ (eq-eqb _ _ (ap (λ (z : ℕ). spread x.q x.m C 1 z) here ∙ none))
-                          (lt-ltb _ _ (subst (λ (z : ℕ). spread x.q x.m C 2 z < 2) (sym here) low2))) in
+                          (and_from _ _ (eq-eqb _ _ (cc (here, none)))
+                          (lt-ltb _ _ (rw (← here) at low2))) in
                           absurd (both_ways (L d) l live)
                     ]
               ]
@@ -456,13 +466,13 @@ module _ (x : Strata) (f : IsField x.q) (room : x.h ≤ x.m) (c s : List ℕ) wh
     -- clear words and live main effects are no more than the live sums
     bounded : total x.q x.m f clears R + total x.q x.m f mains R ≤ live_sums x c
     bounded =
-        let ns : List ℕ = range_with_len 0 (x.q ^ x.m) in
+        let ns = range_with_len 0 (x.q ^ x.m) in
         let a : ℕ → ℕ = λ n. total x.q x.m f (λ j v. cond (eqb n (number x.q v)) (clears j v) 0) R in
         let b : ℕ → ℕ = λ n. total x.q x.m f (λ j v. cond (eqb n (number x.q v)) (mains j v) 0) R in
-        let e1 : total x.q x.m f clears R ≡ sum_by a ns = by-number x.q x.m f clears R hR in
-        let e2 : total x.q x.m f mains R ≡ sum_by b ns = by-number x.q x.m f mains R hR in
-        let both : sum_by (λ n. a n + b n) ns ≡ sum_by a ns + sum_by b ns = sum_by-plus a b ns in
-        let less : sum_by (λ n. a n + b n) ns ≤ live_sums x c =
+        let e1 = by-number x.q x.m f clears R hR in
+        let e2 = by-number x.q x.m f mains R hR in
+        let both = sum_by-plus a b ns in
+        let less =
         sum_by-le (λ n. a n + b n) (λ n. cond (L (digits x.q x.m n)) 1 0) ns
         (each-range (λ n. a n + b n ≤ cond (L (digits x.q x.m n)) 1 0) 0 (x.q ^ x.m)
         (λ n low high. per-sum n (omega arith))) in
@@ -482,16 +492,18 @@ module _ (x : Strata) (f : IsField x.q) (room : x.h ≤ x.m) (c s : List ℕ) wh
   pub span-scaled : (a : ℕ) (v : List ℕ) → 0 < a → a < x.q → IsVector x.q x.m v
       → in_span x.q x.m (base x) (scale x.q a v) ≡ in_span x.q x.m (base x) v
   span-scaled a v pos low hv =
-      let hs : IsVector x.q x.m (scale x.q a v) = scale-vector x.q x.m f a v hv in
+      let hs = scale-vector x.q x.m f a v hv in
       bool_same (in_span x.q x.m (base x) (scale x.q a v)) (in_span x.q x.m (base x) v)
       (λ e. base-in x f room v hv (unscaled x f room a v pos low hv (in-base x f room (scale x.q a v) hs e)))
       (λ e. base-in x f room (scale x.q a v) hs (short-scale x.q x.h a f v (in-base x f room v hv e)))
 
   live-scaled : (a : ℕ) (v : List ℕ) → 0 < a → a < x.q → IsVector x.q x.m v → L (scale x.q a v) ≡ L v
   live-scaled a v pos low hv =
-      ap₂ (λ i n. not i && n) (span-scaled a v pos low hv)
-      (ap₂ (λ (n k : ℕ). eqb n 0 && nat_lt k 2) (spread-scaled x.q x.m f a pos low C hC 1 v hv)
-      (spread-scaled x.q x.m f a pos low C hC 2 v hv))
+      cc (
+        span-scaled a v pos low hv,
+        spread-scaled x.q x.m f a pos low C hC 1 v hv,
+        spread-scaled x.q x.m f a pos low C hC 2 v hv,
+      )
 
   -- a main effect and its multiples
   alone : (g : ℕ → List ℕ → ℕ) → total x.q x.m f g [] ≡ g 0 (zeros x.m)
@@ -507,18 +519,16 @@ module _ (x : Strata) (f : IsField x.q) (room : x.h ≤ x.m) (c s : List ℕ) wh
       total-cons x.q x.m f mains v [] ∙ codes-split x.q x.m f (λ a. total x.q x.m f (rest x.q x.m f mains v a) []) in
       let others : sum_by (λ a. total x.q x.m f (rest x.q x.m f mains v a) []) (range_with_len 1 (x.q - 1))
       ≡ (x.q - 1) * cond (L v) 1 0 =
-      sum_by-same (λ a. total x.q x.m f (rest x.q x.m f mains v a) []) (λ a. cond (L v) 1 0) 1 (x.q - 1)
-      (λ a low high.
-      let pos : 0 < a = omega arith in
-      let top : a < x.q = omega arith in
-      alone (rest x.q x.m f mains v a)
-      ∙ ap₂ (λ (b : ℕ) z. cond {A = ℕ} (L z && eqb (b + 0) 1) 1 0)
-      (cond-true (nat_lt 0 a) 1 0 (lt-ltb 0 a pos))
-      (plus-zero x.q x.m f (scale x.q a v) (scale-vector x.q x.m f a v hv))
-      ∙ ap (λ b. cond {A = ℕ} (b && true) 1 0) (live-scaled a v pos top hv)
-      ∙ fold x.q x.m f (L v) true 0 0)
-      ∙ sum_by-constant (cond {A = ℕ} (L v) 1 0) (range_with_len 1 (x.q - 1))
-      ∙ ap (λ (n : ℕ). n * cond {A = ℕ} (L v) 1 0) (length-range_with_len 1 (x.q - 1)) in
+      cc (
+        sum_by-same (λ a. total x.q x.m f (rest x.q x.m f mains v a) []) (λ a. cond (L v) 1 0) 1 (x.q - 1)
+            (λ a low high. let pos : 0 < a = omega arith in let top : a < x.q = omega arith in alone
+            (rest x.q x.m f mains v a)
+            ∙ ap₂ (λ (b : ℕ) z. cond {A = ℕ} (L z && eqb (b + 0) 1) 1 0) (cond-true (nat_lt 0 a) 1 0 (lt-ltb 0 a pos))
+            (plus-zero x.q x.m f (scale x.q a v) (scale-vector x.q x.m f a v hv))
+            ∙ ap (λ b. cond {A = ℕ} (b && true) 1 0) (live-scaled a v pos top hv) ∙ fold x.q x.m f (L v) true 0 0),
+        sum_by-constant (cond {A = ℕ} (L v) 1 0) (range_with_len 1 (x.q - 1)),
+        length-range_with_len 1 (x.q - 1),
+      ) in
       let none : total x.q x.m f mains [] ≡ 0 =
       alone mains ∙ cond-false (L (zeros x.m) && eqb 0 1) 1 0 (never (L (zeros x.m))) in
       omega arith
@@ -530,29 +540,27 @@ module _ (x : Strata) (f : IsField x.q) (room : x.h ≤ x.m) (c s : List ℕ) wh
   module _ (xs behind : List ℕ) (is : s ≡ xs ++ behind) where
     rows-live : (x.q - 1) * sum_by (λ r. cond {A = ℕ} (L (digits x.q x.m r)) 1 0) xs ≤ total x.q x.m f mains R
     rows-live =
-        let X : List (List ℕ) = vectors_of x.q x.m xs in
-        let hX : AreVectors x.q x.m X = rows-vectors x.q x.m f xs in
-        let more : total x.q x.m f mains [] + sum_by (added x.q x.m f mains []) X ≤ total x.q x.m f mains (X ++ []) =
+        let X = vectors_of x.q x.m xs in
+        let hX = rows-vectors x.q x.m f xs in
+        let more =
         total-more x.q x.m f mains X [] hX tt in
         let whole : total x.q x.m f mains (X ++ []) ≡ total x.q x.m f mains X =
         ap (total x.q x.m f mains) (append-nil X) in
-        let each : sum_by (λ r. (x.q - 1) * cond {A = ℕ} (L (digits x.q x.m r)) 1 0) xs
-        ≤ sum_by (λ r. added x.q x.m f mains [] (digits x.q x.m r)) xs =
+        let each =
         sum_by-le _ _ xs (all-rows xs) in
-        let mapped : sum_by (added x.q x.m f mains []) X
-        ≡ sum_by (λ r. added x.q x.m f mains [] (digits x.q x.m r)) xs =
+        let mapped =
         sum_by_map (added x.q x.m f mains []) (λ r. digits x.q x.m r) xs in
         let out = times-sum (x.q - 1) (λ r. cond {A = ℕ} (L (digits x.q x.m r)) 1 0) xs in
-        let l1 : total x.q x.m f mains X ≤ total x.q x.m f mains (vectors_of x.q x.m (xs ++ behind)) =
+        let l1 =
         total-longer x f mains xs behind in
-        let l2 : total x.q x.m f mains (vectors_of x.q x.m (xs ++ behind))
-        ≤ total x.q x.m f mains (vectors_of x.q x.m ((xs ++ behind) ++ c)) =
+        let l2 =
         total-longer x f mains (xs ++ behind) c in
         let l3 : total x.q x.m f mains (vectors_of x.q x.m ((xs ++ behind) ++ c)) ≡ total x.q x.m f mains R =
-        ap (total x.q x.m f mains) (map-append (λ r. digits x.q x.m r) (xs ++ behind) c)
-        ∙ total-turned x.q x.m f mains (vectors_of x.q x.m (xs ++ behind)) C
-        ∙ ap (total x.q x.m f mains) (sym (map-append (λ r. digits x.q x.m r) c (xs ++ behind))
-        ∙ ap (λ l. vectors_of x.q x.m (c ++ l)) (sym is)) in
+        cc (
+          map-append (λ r. digits x.q x.m r) (xs ++ behind) c,
+          total-turned x.q x.m f mains (vectors_of x.q x.m (xs ++ behind)) C,
+          map-append (λ r. digits x.q x.m r) c (xs ++ behind),
+        ) in
         omega arith
       where
         all-rows : (ys : List ℕ) → AllByRecursion (λ r. (x.q - 1) * cond {A = ℕ} (L (digits x.q x.m r)) 1 0
@@ -566,7 +574,7 @@ module _ (x : Strata) (f : IsField x.q) (room : x.h ≤ x.m) (c s : List ℕ) wh
             let e = sum_by-cons (λ r. a * g r) y ys in
             let e' = sum_by-cons g y ys in
             let rest = times-sum a g ys in
-            e ∙ ap (λ (n : ℕ). a * g y + n) rest ∙ distributed a (g y) (sum_by g ys) ∙ ap (λ (n : ℕ). a * n) (sym e')
+            cc (rest, distributed a (g y) (sum_by g ys))
           where
             distributed : (a b c : ℕ) → a * b + a * c ≡ a * (b + c)
             distributed a b c = grind arith
@@ -614,23 +622,20 @@ module _ (x : Strata) (f : IsField x.q) where
         → total x.q x.m f (λ j v. cond (eqb n (number x.q v)) (cond {A = ℕ} (not (V v) && eqb j 2) 1 0) 0) F
         ≡ cond (is_clear_sum x rows (digits x.q x.m n)) 1 0
     by-sum n low =
-        let d : List ℕ = digits x.q x.m n in
-        let here : number x.q d ≡ n = number-digits x.q x.m n (omega (arith, f.more_than_one)) low in
-        let one : ℕ = spread x.q x.m F 1 (number x.q d) in
-        let two : ℕ = spread x.q x.m F 2 (number x.q d) in
-        let inside : Bool = in_span x.q x.m (base x) d in
-        let sum : effects_at x.q x.m F d ≡ one + two = effects-parts x.q x.m f F d in
-        at-pick x.q x.m f n F hF (λ v. not (V v)) 2
-        ∙ ap (λ (k : ℕ). cond (not (V d)) (spread x.q x.m F 2 k) 0) (sym here)
-        ∙ ap (λ (k : ℕ). cond (not (inside || nat_lt 1 k)) two 0) sum
-        ∙ told inside one two
+        let d = digits x.q x.m n in
+        let here = number-digits x.q x.m n (omega arith) low in
+        let one = spread x.q x.m F 1 (number x.q d) in
+        let two = spread x.q x.m F 2 (number x.q d) in
+        let inside = in_span x.q x.m (base x) d in
+        let sum = effects-parts x.q x.m f F d in
+        cc (at-pick x.q x.m f n F hF (λ v. not (V v)) 2, told inside one two)
 
     pub clear_by_tallies : count_by (λ r. is_clear_sum x rows (digits x.q x.m r)) (range_with_len 0 (x.q ^ x.m))
         + unclear x rows ≡ pairs x.q (length rows)
     unfolding words_in
     clear_by_tallies =
-        let ns : List ℕ = range_with_len 0 (x.q ^ x.m) in
-        let all : ℕ = total x.q x.m f (λ j v. cond {A = ℕ} (not (V v) && eqb j 2) 1 0) F in
+        let ns = range_with_len 0 (x.q ^ x.m) in
+        let all = total x.q x.m f (λ j v. cond {A = ℕ} (not (V v) && eqb j 2) 1 0) F in
         let each : all ≡ count_by (λ r. is_clear_sum x rows (digits x.q x.m r)) ns =
         by-number x.q x.m f (λ j v. cond {A = ℕ} (not (V v) && eqb j 2) 1 0) F hF
         ∙ sum_by-same

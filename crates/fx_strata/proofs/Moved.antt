@@ -1,6 +1,6 @@
 -- A change of the run indexes that keeps the base takes a design to a canonical one with as many words of each
 -- kind.
-use Rattle.std.proofs.Common.{ℕ, ◌≡◌, ◌<◌, ◌≤◌, ◌+◌, ◌-◌, ◌^◌, zero, suc, Bool, true, false, not, cond, eqb, ◌&&◌, List}
+use Rattle.std.proofs.Common.{ℕ, ◌≡◌, ◌<◌, ◌≤◌, ◌+◌, ◌-◌, ◌^◌, zero, suc, Bool, true, false, cond, eqb, ◌&&◌, List}
 use Rattle.std.proofs.Common.{[], ◌∷◌, ◌++◌, map, length, take, drop, refl, sym, subst, ◌∙◌, ap, ap₂, arith, inl, inr}
 use Rattle.std.proofs.Common.{◌⊎◌, eq-eqb, length-append, append-nil, append_assoc}
 use Rattle.std.specs.List.{AllByRecursion}
@@ -28,7 +28,7 @@ use Rattle.fx_laws.proofs.Scalings.{scale-scale, scaled-length, scaled-vectors}
 use Rattle.fx_laws.proofs.CanonicalTest.{take-vectors}
 use Rattle.fx_reduction.proofs.Numbers.{back}
 use Rattle.fx_strata.proofs.Lists.{IsMember}
-use Rattle.fx_strata.proofs.Falls.{free-nonzero}
+use Rattle.fx_laws.proofs.Falling.{free-nonzero}
 use Rattle.fx_strata.proofs.Exchanges.{units-vectors, reordered-map}
 use Rattle.fx_strata.specs.Designs.{Strata}
 use Rattle.fx_strata.specs.Words.{words_in}
@@ -62,10 +62,10 @@ module _ (x : Strata) (f : IsField x.q) (room : x.h ≤ x.m) where
   d = dimensions_of x
 
   fits : x.h + (x.m - x.h) ≤ x.m
-  fits = omega (arith, room)
+  fits = omega arith
 
   small : 0 + x.h ≤ x.m
-  small = omega (arith, room)
+  small = omega arith
 
   pub base-spans : Spans x.q x.m x.h (base x)
   base-spans =
@@ -85,7 +85,7 @@ module _ (x : Strata) (f : IsField x.q) (room : x.h ≤ x.m) where
       → IsShort x.h v
   unscaled c v pos low hv s =
       subst (IsShort x.h)
-      (scale-scale x.q f (inv x.q c) c v ∙ ap (λ a. scale x.q a v) (f.mul_inv c pos low) ∙ scale-one x.q x.m f v hv)
+      (cc (scale-scale x.q f (inv x.q c) c v, f.mul_inv c pos low, scale-one x.q x.m f v hv))
       (short-scale x.q x.h (inv x.q c) f (scale x.q c v) s)
 
   module _ (by : List ℕ → List ℕ) (change : IsChange x.q x.m by) where
@@ -133,13 +133,15 @@ module _ (x : Strata) (f : IsField x.q) (room : x.h ≤ x.m) where
         (s : Sorted d f from len fits (nums zs)) where
       ordered : vectors_of x.q x.m (in_order d from len (nums zs)) ≡ reordered s.swaps (normed zs)
       ordered =
-          ap (vectors_of x.q x.m) (sym s.is)
-          ∙ reordered-map (λ n. digits x.q x.m n) s.swaps (nums zs)
-          ∙ ap (reordered s.swaps) (back x.q x.m f (normed zs) (normed-vectors zs hz))
+          cc (
+            s.is,
+            reordered-map (λ n. digits x.q x.m n) s.swaps (nums zs),
+            back x.q x.m f (normed zs) (normed-vectors zs hz),
+          )
 
       alike-ordered : AreAlike x.q x.m f (vectors_of x.q x.m (in_order d from len (nums zs))) (map by zs)
       alike-ordered g =
-          ap (total x.q x.m f g) ordered ∙ total-reordered x.q x.m f g s.swaps (normed zs) ∙ alike-normed zs hz g
+          cc (ordered, total-reordered x.q x.m f g s.swaps (normed zs), alike-normed zs hz g)
 
       ordered-length : length (in_order d from len (nums zs)) ≡ length zs
       ordered-length =
@@ -158,11 +160,11 @@ module _ (x : Strata) (f : IsField x.q) (room : x.h ≤ x.m) where
       high-stage [] hz out = tt
       high-stage (z ∷ zs) hz out =
           let v : List ℕ = by z in
-          let hv : IsVector x.q x.m v = change.vector z hz.0 in
-          let c : ℕ = normal_factor x.q x.m f v in
+          let hv = change.vector z hz.0 in
+          let c = normal_factor x.q x.m f v in
           let code = (factors-scalars x.q x.m f (v ∷ []) (hv, tt)).0 in
-          let hs : IsVector x.q x.m (scale x.q c v) = scale-vector x.q x.m f c v hv in
-          let top : number x.q (scale x.q c v) < x.q ^ x.m = number-below x.q x.m (scale x.q c v) hs in (
+          let hs = scale-vector x.q x.m f c v hv in
+          let top = number-below x.q x.m (scale x.q c v) hs in (
             record {
               low = elim (cases_lt (number x.q (scale x.q c v)) (x.q ^ x.h)) [
                 | inr high ↦ high
@@ -171,7 +173,7 @@ module _ (x : Strata) (f : IsField x.q) (room : x.h ≤ x.m) where
                     (number-short x.q x.m x.h f (scale x.q c v) hs less))))
               ];
               high = subst (λ n. number x.q (scale x.q c v) < x.q ^ n)
-                  (let e : x.m ≡ x.h + (x.m - x.h) = omega (arith, room) in e) top;
+                  (let e : x.m ≡ x.h + (x.m - x.h) = omega arith in e) top;
             },
             high-stage zs hz.1 out.1,
           )
@@ -183,24 +185,24 @@ module _ (x : Strata) (f : IsField x.q) (room : x.h ≤ x.m) where
       low-stage [] hz inside nonzero = tt
       low-stage (z ∷ zs) hz inside nonzero =
           let v : List ℕ = by z in
-          let hv : IsVector x.q x.m v = change.vector z hz.0 in
-          let c : ℕ = normal_factor x.q x.m f v in
-          let w : List ℕ = scale x.q c v in
-          let hs : IsVector x.q x.m w = scale-vector x.q x.m f c v hv in
-          let short : IsShort x.h w =
+          let hv = change.vector z hz.0 in
+          let c = normal_factor x.q x.m f v in
+          let w = scale x.q c v in
+          let hs = scale-vector x.q x.m f c v hv in
+          let short =
           short-scale x.q x.h c f v (in-base v hv (keeps z hz.0 ∙ inside.0)) in
-          let top : number x.q w < x.q ^ x.h = short-number x.q x.m x.h f w hs short in
+          let top = short-number x.q x.m x.h f w hs short in
           let pos : number x.q w ≡ 0 → ⊥ = λ e. nonzero.0
           (number-same x.q x.m f w (zeros x.m) hs (zeros-vector x.q x.m f) (e ∙ sym (number-zeros x.q x.m))) in (
             record {
-              low = (let one : x.q ^ 0 ≡ 1 = pow-zero x.q in omega arith);
+              low = (let one = pow-zero x.q in omega arith);
               high = subst (λ n. number x.q w < x.q ^ n) (let e : x.h ≡ 0 + x.h = omega arith in e) top;
             },
             low-stage zs hz.1 inside.1 nonzero.1,
           )
 
       confounded-kept : (v : List ℕ) → IsVector x.q x.m v → is_in_base x (base x) (by v) ≡ is_in_base x bs v
-      confounded-kept v hv = ap₂ (λ a b. not a && b) (zero-kept v hv) (keeps v hv)
+      confounded-kept v hv = cc (zero-kept v hv, keeps v hv)
 
       -- the rows of a design
       module _ (xs ys : List (List ℕ)) (lx : length xs ≡ x.w) (ly : length ys ≡ x.n) (hx : AreVectors x.q x.m xs)
@@ -214,7 +216,7 @@ module _ (x : Strata) (f : IsField x.q) (room : x.h ≤ x.m) where
             sorted d f x.h (x.m - x.h) fits (normed ys) (normed-vectors ys hy)
             (free-changed ys hy (free-back x.q x.m f xs ys hx hy free))
             (each_normal x.q x.m f (map by ys) (changed-vectors ys hy)) (high-stage ys hy outside)
-            (λ i low high. come i low (omega (arith, room)))
+            (λ i low high. come i low (omega arith))
 
         abbrev first : List ℕ
         first = first_in_order x (nums xs)
@@ -234,32 +236,30 @@ module _ (x : Strata) (f : IsField x.q) (room : x.h ≤ x.m) where
         first-sorted : First
         first-sorted = elim (cases_eq x.w 0) [
           | inl e ↦
-              let none : xs ≡ [] = empty xs (lx ∙ e) in
-              let is : first ≡ [] =
+              let none = empty xs (lx ∙ e) in
+              let is =
               cond-true (eqb x.w 0) [] (in_order d 0 x.h (nums xs)) (eq-eqb x.w 0 e) in
               record {
-                alike = λ g. ap (λ l. total x.q x.m f g (vectors_of x.q x.m l)) is
-                    ∙ sym (ap (λ l. total x.q x.m f g (map by l)) none);
-                len = ap (λ (l : List ℕ). length l) is ∙ sym e;
+                alike = λ g. cc none;
+                len = cc;
                 stage = inl e;
               }
           | inr ne ↦ elim inside [
             | inl e ↦ absurd (ne e)
             | inr p ↦
-                let is : first ≡ in_order d 0 x.h (nums xs) =
+                let is =
                 cond-false (eqb x.w 0) [] (in_order d 0 x.h (nums xs)) (ne_eqb x.w 0 ne) in
-                let free' : IsFree x.q x.m f (normed xs) =
+                let free' =
                 free-changed xs hx (free-front x.q x.m f xs ys hx hy free) in
-                let s : Sorted d f 0 x.h small (nums xs) =
+                let s =
                 sorted d f 0 x.h small (normed xs) (normed-vectors xs hx) free'
                 (each_normal x.q x.m f (map by xs) (changed-vectors xs hx))
                 (low-stage xs hx p.0
                 (free-nonzero x.q x.m f (normed xs) (normed-vectors xs hx) (word-free x.q x.m f (normed xs) free')))
                 (λ i low high. p.1 i (omega arith)) in
                 record {
-                  alike = λ g. ap (λ l. total x.q x.m f g (vectors_of x.q x.m l)) is ∙ alike-ordered 0 x.h small xs hx s
-                      g;
-                  len = ap (λ (l : List ℕ). length l) is ∙ ordered-length 0 x.h small xs hx s ∙ lx;
+                  alike = λ g. cc (alike-ordered 0 x.h small xs hx s g);
+                  len = cc (ordered-length 0 x.h small xs hx s);
                   stage = inr (record { others = _; is = is; later = s.later });
                 }
           ]
@@ -278,10 +278,10 @@ module _ (x : Strata) (f : IsField x.q) (room : x.h ≤ x.m) where
         second-length = ordered-length x.h (x.m - x.h) fits ys hy second-sorted ∙ ly
 
         front : take x.w (first ++ second) ≡ first
-        front = subst (λ n. take n (first ++ second) ≡ first) first-sorted.len (take-append_seam first second)
+        front = rw first-sorted.len at (take-append_seam first second)
 
         behind : drop x.w (first ++ second) ≡ second
-        behind = subst (λ n. drop n (first ++ second) ≡ second) first-sorted.len (drop-append_seam first second)
+        behind = rw first-sorted.len at (drop-append_seam first second)
 
         laid : IsLaid x (first ++ second)
         laid = record {
@@ -301,8 +301,7 @@ module _ (x : Strata) (f : IsField x.q) (room : x.h ≤ x.m) where
               → total x.q x.m f (λ j v. counted x.q x.m f T k j (by v)) zs ≡ total x.q x.m f (counted x.q x.m f S k) zs
           counted-kept zs hz =
               total-same x.q x.m f (counted x.q x.m f S k) (λ j v. counted x.q x.m f T k j (by v)) zs zs refl
-              (λ u hu. ap (λ b. cond (b && eqb (weight u) k) 1 0)
-              (same (combination x.q x.m u zs) (combination-vector x.q x.m f u zs hz)))
+              (λ u hu. cc (same (combination x.q x.m u zs) (combination-vector x.q x.m f u zs hz)))
 
           all-kept : words_in x.q x.m T (vectors_of x.q x.m (first ++ second)) k ≡ words_in x.q x.m S (xs ++ ys) k
           unfolding words_in
@@ -314,22 +313,23 @@ module _ (x : Strata) (f : IsField x.q) (room : x.h ≤ x.m) where
           unfolding words_in
           front-kept =
               ap (total x.q x.m f (counted x.q x.m f T k))
-              (take-vectors x.q x.m x.w (first ++ second) ∙ ap (vectors_of x.q x.m) front)
+              (cc (take-vectors x.q x.m x.w (first ++ second), front))
               ∙ first-sorted.alike (counted x.q x.m f T k)
               ∙ total-changed x.q x.m f (counted x.q x.m f T k) by change xs hx
               ∙ counted-kept xs hx
               ∙ ap (total x.q x.m f (counted x.q x.m f S k))
-              (sym (subst (λ n. take n (xs ++ ys) ≡ xs) lx (take-append_seam xs ys)))
+              (sym (rw lx at (take-append_seam xs ys)))
 
         pub words-kept : (b : Bool) (k : ℕ) → words x (first ++ second) b k ≡ sums_of x bs (xs ++ ys) b k
         words-kept false k = all-kept is_zero is_zero zero-kept k
-        words-kept true k = ap₂ (λ (a b : ℕ). a - b)
-            (all-kept (is_in_base x (base x)) (is_in_base x bs) confounded-kept k)
-            (front-kept (is_in_base x (base x)) (is_in_base x bs) confounded-kept k)
+        words-kept true k = cc (
+          all-kept (is_in_base x (base x)) (is_in_base x bs) confounded-kept k,
+          front-kept (is_in_base x (base x)) (is_in_base x bs) confounded-kept k,
+        )
 
         pub unclear-kept : unclear x (first ++ second) ≡ unclear_sums x bs (xs ++ ys)
         unclear-kept =
-            let rows : List (List ℕ) = vectors_of x.q x.m (first ++ second) in
+            let rows = vectors_of x.q x.m (first ++ second) in
             all-kept (is_unclear_sum x (base x) rows) (is_unclear_sum x bs (xs ++ ys))
             (λ v hv. ap₂ (λ i n. i || nat_lt 1 n) (keeps v hv)
             (effects-total x.q x.m f rows (by v) ∙ alike-all (near x.q x.m f (by v))

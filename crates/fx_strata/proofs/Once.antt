@@ -61,18 +61,22 @@ module _ (x : Strata) (b : Bool) (k : ℕ) where
                   cond-true counts (often (part ∷ parts)) 0 c in
                   omega arith
               | inr c ↦
-                  ap often (cond-false (is_compared x part) (part ∷ kept) kept (is ∙ c)) ∙ rest
-                  ∙ cond-false counts (often parts) 0 c ∙ sym (cond-false counts (often (part ∷ parts)) 0 c)
+                  cc (
+                    cond-false (is_compared x part) (part ∷ kept) kept (is ∙ c),
+                    rest,
+                    cond-false counts (often parts) 0 c,
+                    cond-false counts (often (part ∷ parts)) 0 c,
+                  )
             ]
         | inr o ↦
             let none : bit (are_words b k part) ≡ 0 = cond-false (are_words b k part) 1 0 o in
             let same-rest : often (part ∷ parts) ≡ often parts = omega arith in
             let without : often (part ∷ kept) ≡ often kept = omega arith in
             let right : cond {A = ℕ} counts (often parts) 0 ≡ cond counts (often (part ∷ parts)) 0 =
-            ap (λ (n : ℕ). cond {A = ℕ} counts n 0) (sym same-rest) in
+            cc same-rest in
             elim (cases_Bool (is_compared x part)) [
-              | inl c ↦ ap often (cond-true (is_compared x part) (part ∷ kept) kept c) ∙ without ∙ rest ∙ right
-              | inr c ↦ ap often (cond-false (is_compared x part) (part ∷ kept) kept c) ∙ rest ∙ right
+              | inl c ↦ cc (cond-true (is_compared x part) (part ∷ kept) kept c, without, rest, right)
+              | inr c ↦ cc (cond-false (is_compared x part) (part ∷ kept) kept c, rest, right)
             ]
       ]
 
@@ -80,7 +84,7 @@ module _ (x : Strata) (b : Bool) (k : ℕ) where
   once-among : (parts : List Part) → (counts ≡ true → often parts ≡ 1)
       → often (compared x parts) ≡ cond counts 1 0
   once-among parts one = those-compared parts ∙ elim (cases_Bool counts) [
-    | inl t ↦ ap (λ (n : ℕ). cond {A = ℕ} counts n 0) (one t)
+    | inl t ↦ cc (one t)
     | inr o ↦ cond-false counts (often parts) 0 o ∙ sym (cond-false counts 1 0 o)
   ]
 
@@ -92,7 +96,7 @@ module _ (g : ℕ → ℕ) (i : ℕ) (is : (k : ℕ) → 0 < k → g k ≡ bit (
       let first = sum_by-cons g a (range_with_len (a + 1) n) in
       let rest = none-past (a + 1) n (omega arith) (omega arith) in
       let here = is a some in
-      let none : bit (eqb a i) ≡ 0 = other a i (λ e. omega arith) in
+      let none = other a i (λ e. omega arith) in
       omega arith
 
   one-there : (a n : ℕ) → 0 < a → a ≤ i → i < a + n → sum_by g (range_with_len a n) ≡ 1
@@ -102,11 +106,11 @@ module _ (g : ℕ → ℕ) (i : ℕ) (is : (k : ℕ) → 0 < k → g k ≡ bit (
       let here = is a some in
       elim (cases_eq a i) [
         | inl e ↦
-            let one : bit (eqb a i) ≡ 1 = same a i e in
+            let one = same a i e in
             let rest = none-past (a + 1) n (omega arith) (omega arith) in
             omega arith
         | inr ne ↦
-            let none : bit (eqb a i) ≡ 0 = other a i ne in
+            let none = other a i ne in
             let rest = one-there (a + 1) n (omega arith) (omega arith) (omega arith) in
             omega arith
       ]
@@ -122,21 +126,21 @@ one-of-two : (a b k j i : ℕ) → (j ≡ i → ((a ≡ k) × (b ≡ k → ⊥))
     → ((a ≡ k) ⊎ (b ≡ k) → j ≡ i) → bit (eqb a k) + bit (eqb b k) ≡ bit (eqb j i)
 one-of-two a b k j i there back = elim (cases_eq j i) [
   | inl e ↦
-      let one : bit (eqb j i) ≡ 1 = same j i e in
+      let one = same j i e in
       elim (there e) [
         | inl p ↦
-            let yes : bit (eqb a k) ≡ 1 = same a k p.0 in
-            let no : bit (eqb b k) ≡ 0 = other b k p.1 in
+            let yes = same a k p.0 in
+            let no = other b k p.1 in
             omega arith
         | inr p ↦
-            let no : bit (eqb a k) ≡ 0 = other a k p.0 in
-            let yes : bit (eqb b k) ≡ 1 = same b k p.1 in
+            let no = other a k p.0 in
+            let yes = same b k p.1 in
             omega arith
       ]
   | inr ne ↦
-      let none : bit (eqb j i) ≡ 0 = other j i ne in
-      let no : bit (eqb a k) ≡ 0 = other a k (λ e. ne (back (inl e))) in
-      let no' : bit (eqb b k) ≡ 0 = other b k (λ e. ne (back (inr e))) in
+      let none = other j i ne in
+      let no = other a k (λ e. ne (back (inl e))) in
+      let no' = other b k (λ e. ne (back (inr e))) in
       omega arith
 ]
 
@@ -178,7 +182,7 @@ module _ (x : Strata) where
     of-two : (p p' : Part) → often x b k (p ∷ p' ∷ []) ≡ bit (are_words b k p) + bit (are_words b k p')
     of-two p p' =
         let e = often-first x b k p (p' ∷ []) in
-        let e' : often x b k (p' ∷ []) ≡ bit (are_words b k p') + 0 = often-first x b k p' [] in
+        let e' = often-first x b k p' [] in
         omega arith
 
     of-three : (p p' p'' : Part) → often x b k (p ∷ p' ∷ p'' ∷ [])
@@ -238,7 +242,7 @@ module _ (x : Strata) where
       let r = confounded-range k c in
       among-weights true k k (three-at f g)
       (λ j pos.
-      let e : often x true k (three-at f g j) ≡ 0 + (0 + bit (eqb j k)) =
+      let e =
       of-three true k (Words false (f j)) (Words false (g j)) (Words true j) in
       omega arith)
       (let l = r.0 in omega arith) r.1
@@ -249,7 +253,7 @@ module _ (x : Strata) where
   constant-of-three f g k i is some low =
       among-weights false k i (three-at f g)
       (λ j pos.
-      let e : often x false k (three-at f g j) ≡ bit (eqb (f j) k) + (bit (eqb (g j) k) + 0) =
+      let e =
       of-three false k (Words false (f j)) (Words false (g j)) (Words true j) in
       let e' = is j pos in
       omega arith)
@@ -266,7 +270,7 @@ module _ (x : Strata) where
           let l = r.0 in
           let u = r.1 in
           let h = halves k in
-          let i : ℕ = h.0 in
+          let i = h.0 in
           elim (h.1) [
             | inl e ↦ constant-of-three (λ j. 2 * j - 1) (λ j. 2 * j) k i
                 (λ j pos. one-of-two (2 * j - 1) (2 * j) k j i
@@ -291,7 +295,7 @@ module _ (x : Strata) where
           let l = r.0 in
           let u = r.1 in
           let h = halves k in
-          let i : ℕ = h.0 in
+          let i = h.0 in
           constant-of-three (λ j. 2 * j - 2) (λ j. 2 * j - 1) k (i + 1)
           (λ j pos. elim (h.1) [
             | inl e ↦ one-of-two (2 * j - 2) (2 * j - 1) k j (i + 1)
@@ -312,7 +316,7 @@ module _ (x : Strata) where
           let r = confounded-range k c in
           among-weights true k k (λ j. Words false (j + 1) ∷ Words true j ∷ [])
           (λ j pos.
-          let e : often x true k (Words false (j + 1) ∷ Words true j ∷ []) ≡ 0 + bit (eqb j k) =
+          let e =
           of-two true k (Words false (j + 1)) (Words true j) in
           omega arith)
           (let l = r.0 in omega arith) r.1
@@ -322,9 +326,9 @@ module _ (x : Strata) where
           let u = r.1 in
           among-weights false k (k - 1) (λ j. Words false (j + 1) ∷ Words true j ∷ [])
           (λ j pos.
-          let e : often x false k (Words false (j + 1) ∷ Words true j ∷ []) ≡ bit (eqb (j + 1) k) + 0 =
+          let e =
           of-two false k (Words false (j + 1)) (Words true j) in
-          let e' : bit (eqb (j + 1) k) ≡ bit (eqb j (k - 1)) =
+          let e' =
           one-of-one (j + 1) k j (k - 1) (λ z. omega arith) (λ z. omega arith) in
           omega arith)
           (omega arith) (omega arith)
@@ -340,7 +344,7 @@ module _ (x : Strata) where
           + (often x b k (map (λ j. Words false (3 + j)) (weights x)) + often x b k (map (Words true) (weights x)))
       parted b k =
           let e = often-first x b k (Words false 3) (Unclear ∷ after-clear) in
-          let e' : often x b k (Unclear ∷ after-clear) ≡ 0 + often x b k after-clear =
+          let e' =
           often-first x b k Unclear after-clear in
           let e'' = of-both b k (map (λ j. Words false (3 + j)) (weights x)) (map (Words true) (weights x)) in
           omega arith
@@ -356,9 +360,7 @@ module _ (x : Strata) where
           → often x b k (Words false 3 ∷ Unclear ∷ after-clear) ≡ 1
       one true k c =
           let r = confounded-range k c in
-          let e : often x true k (Words false 3 ∷ Unclear ∷ after-clear)
-          ≡ 0 + (often x true k (map (λ j. Words false (3 + j)) (weights x))
-          + often x true k (map (Words true) (weights x))) = parted true k in
+          let e = parted true k in
           let no = no-constant k (λ j. 3 + j) in
           let yes = confounded-once k (let l = r.0 in omega arith) r.1 in
           omega arith
@@ -368,19 +370,17 @@ module _ (x : Strata) where
           let u = r.1 in
           let i : ℕ = k - 3 in
           let is : k ≡ 3 + i = omega arith in
-          let e : often x false k (Words false 3 ∷ Unclear ∷ after-clear)
-          ≡ bit (eqb 3 k) + (often x false k (map (λ j. Words false (3 + j)) (weights x))
-          + often x false k (map (Words true) (weights x))) = parted false k in
+          let e = parted false k in
           let no = no-confounded k in
           let sum = behind k i is in
           elim (cases_eq 3 k) [
             | inl three ↦
-                let yes : bit (eqb 3 k) ≡ 1 = same 3 k three in
+                let yes = same 3 k three in
                 let none = none-past (λ j. bit (eqb (3 + j) k)) i (λ j pos. moved k i j is) 1 size (omega arith)
                 (omega arith) in
                 omega arith
             | inr more ↦
-                let none : bit (eqb 3 k) ≡ 0 = other 3 k more in
+                let none = other 3 k more in
                 let yes = one-there (λ j. bit (eqb (3 + j) k)) i (λ j pos. moved k i j is) 1 size (omega arith)
                 (omega arith) (omega arith) in
                 omega arith

@@ -1,6 +1,6 @@
 -- Rule matrices without block factors that meet resolution 3 are designs whose base is zero.
 use Rattle.std.proofs.Common.{ℕ, ◌≡◌, ◌<◌, ◌≤◌, ◌+◌, ◌-◌, ◌*◌, ◌/◌, zero, suc, true, false, cond, eqb, ◌&&◌, List, []}
-use Rattle.std.proofs.Common.{◌∷◌, ◌++◌, map, length, take, refl, sym, subst, ◌∙◌, ap, ap₂, arith, inl, inr, eqb-true}
+use Rattle.std.proofs.Common.{◌∷◌, ◌++◌, map, length, take, refl, sym, subst, ◌∙◌, ap, arith, inl, inr, eqb-true}
 use Rattle.std.proofs.Common.{eq-eqb, append-nil, not}
 use Rattle.std.specs.Prelude.{nat_lt}
 use Rattle.std.specs.List.{range_with_len, sum_by}
@@ -11,7 +11,7 @@ use Rattle.std.proofs.lemmas.List.Elements.{filter-append, recursion_from_All, A
 use Rattle.std.proofs.Math.Nat.{mul-le-mul_left, mul-div_cancel_left}
 use Rattle.fx_base.proofs.Lists.{each-append}
 use Rattle.fx_designs.specs.Galois.{IsField}
-use Rattle.fx_designs.specs.Vectors.{IsVector, plus, zeros, weight, is_zero, combination, vectors_of}
+use Rattle.fx_designs.specs.Vectors.{IsVector, zeros, weight, is_zero, combination, vectors_of}
 use Rattle.fx_designs.specs.Runs.{points, runs_of}
 use Rattle.fx_designs.specs.Spans.{in_span}
 use Rattle.fx_designs.specs.Problems.{Dimensions, AtResolution}
@@ -40,7 +40,7 @@ use Rattle.fx_strata.proofs.Runs.{words-are-sums}
 -- what is less than a list that begins with 0 begins with 0 too, and goes on with less
 behind-zero : (a : ℕ) (front other : List ℕ) → is_less (a ∷ front) (0 ∷ other) ≡ true → is_less front other ≡ true
 behind-zero a front other h = elim (or_cases (nat_lt a 0) (eqb a 0 && is_less front other) h) [
-  | inl t ↦ absurd (let low : a < 0 = ltb-true a 0 t in omega arith)
+  | inl t ↦ absurd (let low = ltb-true a 0 t in omega arith)
   | inr t ↦ (and_parts (eqb a 0) (is_less front other) t).1
 ]
 
@@ -48,9 +48,9 @@ behind-zeros : (g : ℕ → ℕ) (s : ℕ) (pattern : List ℕ) → is_less (map
     → (n : ℕ) × (s ≡ suc (suc n)) × (is_less (map g (range_with_len 3 n)) pattern ≡ true)
 behind-zeros g zero pattern h = absurd (cc h)
 behind-zeros g (suc zero) pattern h =
-    absurd (let none : false ≡ true = behind-zero (g 1) [] (0 ∷ pattern) h in cc none)
+    absurd (let none = behind-zero (g 1) [] (0 ∷ pattern) h in cc none)
 behind-zeros g (suc (suc n)) pattern h =
-    let later : List ℕ = map g (range_with_len 3 n) in
+    let later = map g (range_with_len 3 n) in
     (n, refl, behind-zero (g 2) later pattern (behind-zero (g 1) (g 2 ∷ later) (0 ∷ pattern) h))
 
 -- the order of designs without a base
@@ -62,11 +62,13 @@ module _ (d : Dimensions) where
       → all (map (Words false) (range_with_len a n)) ≡ map (Words false) (range_with_len a n)
   all-constant a zero low high = refl
   all-constant a (suc n) low high =
-      let later : List Part = map (Words false) (range_with_len (a + 1) n) in
-      let is : is_compared (ordinary d) (Words false a) ≡ true =
+      let later = map (Words false) (range_with_len (a + 1) n) in
+      let is =
       and_from _ _ (le-leb 3 a low) (le-leb a (0 + d.s) (omega arith)) in
-      cond-true (is_compared (ordinary d) (Words false a)) (Words false a ∷ all later) (all later) is
-      ∙ ap (λ l. Words false a ∷ l) (all-constant (a + 1) n (omega arith) (omega arith))
+      cc (
+        cond-true (is_compared (ordinary d) (Words false a)) (Words false a ∷ all later) (all later) is,
+        all-constant (a + 1) n (omega arith) (omega arith),
+      )
 
   none-confounded : (a n : ℕ) → all (map (Words true) (range_with_len a n)) ≡ []
   none-confounded a zero = refl
@@ -78,10 +80,13 @@ module _ (d : Dimensions) where
       let size : suc (suc n) ≡ 0 + d.s = omega arith in
       subst (λ s. all (map (Words false) (range_with_len 1 s) ++ map (Words true) (range_with_len 1 s))
       ≡ map (Words false) (range_with_len 3 n)) size
-      (filter-append (is_compared (ordinary d)) (map (Words false) (range_with_len 3 n))
-      (map (Words true) (range_with_len 1 (suc (suc n))))
-      ∙ ap₂ (λ l l'. l ++ l') (all-constant 3 n (omega arith) (omega arith)) (none-confounded 1 (suc (suc n)))
-      ∙ append-nil (map (Words false) (range_with_len 3 n)))
+      (cc (
+        filter-append (is_compared (ordinary d)) (map (Words false) (range_with_len 3 n))
+            (map (Words true) (range_with_len 1 (suc (suc n)))),
+        all-constant 3 n (omega arith) (omega arith),
+        none-confounded 1 (suc (suc n)),
+        append-nil (map (Words false) (range_with_len 3 n)),
+      ))
 
 module _ (d : Dimensions) (f : IsField d.q) (none : d.t ≡ 0) where
   abbrev x : Strata
@@ -101,22 +106,23 @@ module _ (d : Dimensions) (f : IsField d.q) (none : d.t ≡ 0) where
         let ok = (allowed_facts d f (AtResolution 3) factors blocks hm.factor_count hm.block_count).0
         ((met_exactly d f (AtResolution 3) factors blocks hm).0 met) in
         let hz = zeros-vector d.q d.t f in
-        ok.none u (zeros d.t) hu (subst (λ n. IsVector d.q n (zeros d.t)) (sym hm.block_count) hz)
+        ok.none u (zeros d.t) hu (rw hm.block_count hz)
         (inl (refl, (some, low)))
-        (ap (plus d.q (combination d.q d.m u factors)) (none-combination d.q d.m f d.t blocks hb)
-        ∙ plus-zero d.q d.m f (combination d.q d.m u factors) (combination-vector d.q d.m f u factors hf) ∙ z)
+        (cc (
+          none-combination d.q d.m f d.t blocks hb,
+          plus-zero d.q d.m f (combination d.q d.m u factors) (combination-vector d.q d.m f u factors hf),
+        ))
 
     sums-none : (k : ℕ) → 0 < k → k < 3 → words_in d.q d.m is_zero factors k ≡ 0
     unfolding words_in
     sums-none k some low =
         let one : List ℕ → ℕ = λ u. cond (is_zero (combination d.q d.m u factors) && eqb (weight u) k) 1 0 in
         sum_by-each one (λ u. 0) (points d.q (length factors)) (recursion_from_All _ (points d.q (length factors))
-        (all-points d.q (length factors) (omega (arith, f.more_than_one)) (λ u. one u ≡ 0)
-        (λ u hu. ap (λ b. cond {A = ℕ} b 1 0) (false_from_ne_true _ (λ t.
-        let p = and_parts (is_zero (combination d.q d.m u factors)) (eqb (weight u) k) t in
-        let w : weight u ≡ k = eqb-true (weight u) k p.1 in
-        let hv = combination-vector d.q d.m f u factors hf in
-        no-short u hu (omega arith) (omega arith)
+        (all-points d.q (length factors) (omega arith) (λ u. one u ≡ 0)
+        (λ u hu. cc (false_from_ne_true _
+        (λ t. let p = and_parts (is_zero (combination d.q d.m u factors)) (eqb (weight u) k) t in let w : weight u
+        ≡ k = eqb-true (weight u) k p.1 in let hv = combination-vector d.q d.m f u factors hf in no-short u hu
+        (omega arith) (omega arith)
         (zeros_from_weight (combination d.q d.m u factors) d.m hv.len
         (eqb-true (weight (combination d.q d.m u factors)) 0 p.0)))))))
         ∙ sum_by-zero (points d.q (length factors))
@@ -131,16 +137,14 @@ module _ (d : Dimensions) (f : IsField d.q) (none : d.t ≡ 0) where
         let one : List ℕ → ℕ = λ u. cond (is_in_base x [] (combination d.q d.m u factors) && eqb (weight u) 1) 1 0 in
         let all : sum_by one (points d.q (length factors)) ≡ 0 =
         sum_by-each one (λ u. 0) (points d.q (length factors)) (recursion_from_All _ (points d.q (length factors))
-        (all-points d.q (length factors) (omega (arith, f.more_than_one)) (λ u. one u ≡ 0)
-        (λ u hu. ap (λ b. cond {A = ℕ} b 1 0) (false_from_ne_true _ (λ t.
-        let v : List ℕ = combination d.q d.m u factors in
-        let hv = combination-vector d.q d.m f u factors hf in
-        let p = and_parts (is_in_base x [] v) (eqb (weight u) 1) t in
-        let p' = and_parts (not (is_zero v)) (in_span d.q d.m [] v) p.0 in
-        let s = in_span-true d.q d.m f [] v tt hv p'.1 in
-        let zero : is_zero v ≡ true =
-        ap is_zero (sym s.gives ∙ nothing s.by) ∙ eq-eqb (weight (zeros d.m)) 0 (weight-zeros d.m) in
-        both_ways (is_zero v) (not-true (is_zero v) p'.0) zero)))))
+        (all-points d.q (length factors) (omega arith) (λ u. one u ≡ 0)
+        (λ u hu. cc (false_from_ne_true _
+        (λ t. let v : List ℕ = combination d.q d.m u factors in let hv = combination-vector d.q d.m f u factors
+        hf in let p = and_parts (is_in_base x [] v) (eqb (weight u) 1) t in let p' = and_parts (not (is_zero v))
+        (in_span d.q d.m [] v) p.0 in let s = in_span-true d.q d.m f [] v tt hv p'.1 in let zero : is_zero v
+        ≡ true = ap is_zero (sym s.gives ∙ nothing s.by)
+        ∙ eq-eqb (weight (zeros d.m)) 0 (weight-zeros d.m) in both_ways (is_zero v) (not-true (is_zero v) p'.0)
+        zero)))))
         ∙ sum_by-zero (points d.q (length factors)) in
         omega arith
       where
@@ -162,10 +166,11 @@ module _ (d : Dimensions) (f : IsField d.q) (none : d.t ≡ 0) where
     -- the pattern is of the factor rows
     rows-are : vectors_of d.q d.m (take d.s (row_numbers d factors blocks)) ≡ factors
     rows-are =
-        sym (take-vectors d.q d.m d.s (row_numbers d factors blocks))
-        ∙ ap (take d.s)
-        (back d.q d.m f (factors ++ blocks) (each-append (λ r. IsVector d.q d.m r) factors blocks hf hb))
-        ∙ subst (λ n. take n (factors ++ blocks) ≡ factors) hm.factor_count (take-append_seam factors blocks)
+        cc (
+          take-vectors d.q d.m d.s (row_numbers d factors blocks),
+          back d.q d.m f (factors ++ blocks) (each-append (λ r. IsVector d.q d.m r) factors blocks hf hb),
+          subst (λ n. take n (factors ++ blocks) ≡ factors) hm.factor_count (take-append_seam factors blocks),
+        )
 
     abbrev c : ℕ → ℕ
     c k = constant_words d.q d.m factors k
@@ -181,7 +186,7 @@ module _ (d : Dimensions) (f : IsField d.q) (none : d.t ≡ 0) where
         let big : 0 < m = omega (arith, f.more_than_one) in
         let N : ℕ = normal_words d.q d.m factors a in
         let is : c a ≡ m * N = multiples d.q d.m f factors a hf pos in
-        let divided : c a / m ≡ N = ap (λ n. n / m) is ∙ mul-div_cancel_left N big in
+        let divided : c a / m ≡ N = cc (is, mul-div_cancel_left N big) in
         elim (or_cases (nat_lt (c a / m) p)
         (eqb (c a / m) p && is_less (map (λ k. c k / m) (range_with_len (a + 1) n)) pattern) h) [
           | inl t ↦
@@ -193,7 +198,7 @@ module _ (d : Dimensions) (f : IsField d.q) (none : d.t ≡ 0) where
               let q = and_parts (eqb (c a / m) p)
               (is_less (map (λ k. c k / m) (range_with_len (a + 1) n)) pattern) t in
               let e : N ≡ p = sym divided ∙ eqb-true (c a / m) p q.0 in
-              or_right _ _ (and_from _ _ (eq-eqb (c a) (m * p) (is ∙ ap (λ (z : ℕ). m * z) e))
+              or_right _ _ (and_from _ _ (eq-eqb (c a) (m * p) (cc (is, e)))
               (less-key (a + 1) n pattern (omega arith) q.1))
         ]
 
@@ -201,12 +206,9 @@ module _ (d : Dimensions) (f : IsField d.q) (none : d.t ≡ 0) where
   unfolding pattern_of
   less_patterns pattern none' better factors blocks hm met = false_from_ne_true _ (λ t.
       let rest = behind-zeros (λ k. c factors blocks hm met k / (d.q - 1)) d.s pattern
-      (subst (λ l. is_less (map (λ k. constant_words d.q d.m l k / (d.q - 1)) (range_with_len 1 d.s)) (0 ∷ 0 ∷ pattern)
-      ≡ true) (rows-are factors blocks hm met) t) in
+      (rw (rows-are factors blocks hm met) at t) in
       both_ways _ (better [] factors (stratified factors blocks hm met))
-      (subst (λ o. is_less (map (part_of (figures_of x [] factors)) o) (map (λ z. (d.q - 1) * z) pattern) ≡ true)
-      (sym (constant-words d rest.0 rest.1))
-      (less-key factors blocks hm met 3 rest.0 pattern (omega arith) rest.2)))
+      (rw (constant-words d rest.0 rest.1) (less-key factors blocks hm met 3 rest.0 pattern (omega arith) rest.2)))
 
   pub matrices_are_designs : MatricesAreDesigns d
   matrices_are_designs none' better factors blocks hm = false_from_ne_true _ (λ met.

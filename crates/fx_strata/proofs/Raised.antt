@@ -3,7 +3,7 @@ use Rattle.std.proofs.Common.{ℕ, ◌≡◌, ◌<◌, ◌≤◌, ◌+◌, ◌-�
 use Rattle.std.proofs.Common.{[], ◌∷◌, ◌++◌, map, length, refl, sym, subst, ◌∙◌, ap, ap₂, arith, inl, inr, ◌⊎◌}
 use Rattle.std.proofs.Common.{eqb-true}
 use Rattle.std.proofs.Common.{eq-eqb, append_assoc, append-nil, le_trans}
-use Rattle.std.specs.List.{AllByRecursion, sum_by}
+use Rattle.std.specs.List.{AllByRecursion}
 use Rattle.std.specs.Prelude.{nat_lt, ◌||◌}
 use Rattle.std.proofs.lemmas.Bool.{cases_lt, and_parts, false_from_ne_true, or_cases, or_left, or_right, lt-ltb}
 use Rattle.std.proofs.lemmas.Bool.{ltb-true}
@@ -28,7 +28,7 @@ use Rattle.fx_laws.proofs.Raises.{rank-raised, sum_by-le}
 use Rattle.fx_laws.proofs.Follows.{formed-append, formed-short, formed-up, short-unit, unit-unit, raise_some, short-le}
 use Rattle.fx_laws.proofs.Weights.{zeros_from_weight, weight-zeros}
 use Rattle.fx_reduction.proofs.Cancelling.{add-negated}
-use Rattle.fx_strata.proofs.Falls.{formed-room}
+use Rattle.fx_laws.proofs.Falling.{formed-room}
 use Rattle.fx_strata.specs.Designs.{Strata, is_effect}
 use Rattle.fx_strata.specs.Words.{words_in}
 use Rattle.fx_strata.specs.Sums.{effects_at, is_in_base, is_unclear_sum, unclear_sums}
@@ -39,13 +39,13 @@ use Rattle.fx_strata.proofs.Unclear.{effects-changed}
 pub spans-formed : (q m k n : ℕ) (f : IsField q) (bs rows : List (List ℕ)) → AreVectors q m rows → Spans q m k bs
     → IsFormedTo m k rows n → Spans q m n (bs ++ rows)
 spans-formed q m k n f bs [] hr h formed =
-    subst (λ z. Spans q m z (bs ++ [])) formed (subst (Spans q m k) (sym (append-nil bs)) h)
+    rw formed at (subst (Spans q m k) (sym (append-nil bs)) h)
 spans-formed q m k n f bs (r ∷ rows) hr h formed = elim formed [
   | inl s ↦ subst (Spans q m n) (append_assoc bs (r ∷ []) rows)
       (spans-formed q m k n f (bs ++ r ∷ []) rows hr.1 (spans-old q m f k bs r hr.0 h s.0) s.1)
   | inr s ↦ subst (Spans q m n) (append_assoc bs (r ∷ []) rows)
       (spans-formed q m (suc k) n f (bs ++ r ∷ []) rows hr.1
-      (subst (λ z. Spans q m (suc k) (bs ++ z ∷ [])) (sym s.1) (spans-new q m f k bs s.0 h)) s.2)
+      (rw s.1 (spans-new q m f k bs s.0 h)) s.2)
 ]
 
 -- the rows of a base, of the inside factors, and of the outside factors
@@ -73,9 +73,11 @@ module _ (x : Strata) (f : IsField x.q) where
         (λ e. ap is_zero (change.zero_alone v hv
         (zeros_from_weight (a v) x.m (let h = change.vector v hv in h.len) (eqb-true (weight (a v)) 0 e)))
         ∙ eq-eqb (weight (zeros x.m)) 0 (weight-zeros x.m))
-        (λ e. ap is_zero (ap a (zeros_from_weight v x.m hv.len (eqb-true (weight v) 0 e))
-        ∙ change-zeros x.q x.m f a change)
-        ∙ eq-eqb (weight (zeros x.m)) 0 (weight-zeros x.m))
+        (λ e. cc (
+          zeros_from_weight v x.m hv.len (eqb-true (weight v) 0 e),
+          change-zeros x.q x.m f a change,
+          eq-eqb (weight (zeros x.m)) 0 (weight-zeros x.m),
+        ))
 
     words-changed : (T S : List ℕ → Bool) → ((v : List ℕ) → IsVector x.q x.m v → T (a v) ≡ S v) → (zs : List (List ℕ))
         → AreVectors x.q x.m zs → (k : ℕ) → words_in x.q x.m T (map a zs) k ≡ words_in x.q x.m S zs k
@@ -83,32 +85,33 @@ module _ (x : Strata) (f : IsField x.q) where
     words-changed T S same zs hz k =
         total-changed x.q x.m f (counted x.q x.m f T k) a change zs hz
         ∙ total-same x.q x.m f (counted x.q x.m f S k) (λ j v. counted x.q x.m f T k j (a v)) zs zs refl
-        (λ u hu. ap (λ b. cond (b && eqb (weight u) k) 1 0)
-        (same (combination x.q x.m u zs) (combination-vector x.q x.m f u zs hz)))
+        (λ u hu. cc (same (combination x.q x.m u zs) (combination-vector x.q x.m f u zs hz)))
 
     module _ (bs xs ys : List (List ℕ)) (rows : Rows x bs xs ys) where
       confounded-same : (v : List ℕ) → IsVector x.q x.m v → is_in_base x (map a bs) (a v) ≡ is_in_base x bs v
       confounded-same v hv =
-          ap₂ (λ z i. not z && i) (zero-same v hv) (in_span-change x.q x.m f a change bs v rows.bases hv)
+          cc (zero-same v hv, in_span-change x.q x.m f a change bs v rows.bases hv)
 
       all : AreVectors x.q x.m (xs ++ ys)
       all = each-append (λ r. IsVector x.q x.m r) xs ys rows.firsts rows.others
 
       counts-changed : (b : Bool) (k : ℕ) → counts x (map a bs) (map a xs) (map a ys) b k ≡ counts x bs xs ys b k
       counts-changed false k =
-          ap (λ l. words_in x.q x.m is_zero l k) (sym (map-append a xs ys))
-          ∙ words-changed is_zero is_zero zero-same (xs ++ ys) all k
-      counts-changed true k = ap₂ (λ (m n : ℕ). m - n)
-          (ap (λ l. words_in x.q x.m (is_in_base x (map a bs)) l k) (sym (map-append a xs ys))
-          ∙ words-changed (is_in_base x (map a bs)) (is_in_base x bs) confounded-same (xs ++ ys) all k)
-          (words-changed (is_in_base x (map a bs)) (is_in_base x bs) confounded-same xs rows.firsts k)
+          cc (map-append a xs ys, words-changed is_zero is_zero zero-same (xs ++ ys) all k)
+      counts-changed true k = cc (
+        map-append a xs ys,
+        words-changed (is_in_base x (map a bs)) (is_in_base x bs) confounded-same (xs ++ ys) all k,
+        words-changed (is_in_base x (map a bs)) (is_in_base x bs) confounded-same xs rows.firsts k,
+      )
 
       unclear-changed : unclear_sums x (map a bs) (map a xs ++ map a ys) ≡ unclear_sums x bs (xs ++ ys)
       unclear-changed =
-          ap (unclear_sums x (map a bs)) (sym (map-append a xs ys))
-          ∙ words-changed (is_unclear_sum x (map a bs) (map a (xs ++ ys))) (is_unclear_sum x bs (xs ++ ys))
-          (λ v hv. ap₂ (λ i n. i || nat_lt 1 n) (in_span-change x.q x.m f a change bs v rows.bases hv)
-          (effects-changed x.q x.m f a change v hv (xs ++ ys) all)) (xs ++ ys) all 2
+          cc (
+            map-append a xs ys,
+            words-changed (is_unclear_sum x (map a bs) (map a (xs ++ ys))) (is_unclear_sum x bs (xs ++ ys))
+                (λ v hv. ap₂ (λ i n. i || nat_lt 1 n) (in_span-change x.q x.m f a change bs v rows.bases hv)
+                (effects-changed x.q x.m f a change v hv (xs ++ ys) all)) (xs ++ ys) all 2,
+          )
 
       outside-changed : (vs : List (List ℕ)) → AreVectors x.q x.m vs
           → AllByRecursion (λ r. in_span x.q x.m bs r ≡ false) vs
@@ -148,19 +151,17 @@ module _ (x : Strata) (f : IsField x.q) where
         → dot x.q (combination x.q x.m u (xs ++ zs)) p ≡ 0
         → combination x.q x.m u (xs ++ zs) ≡ combination x.q x.m u (xs ++ ys)
     old-sum u hu none =
-        let old : List ℕ = combination x.q x.m u (xs ++ ys) in
-        let new : List ℕ = combination x.q x.m u (xs ++ zs) in
+        let old = combination x.q x.m u (xs ++ ys) in
+        let new = combination x.q x.m u (xs ++ zs) in
         let sum = raised-sum x.q x.m f v (xs ++ ys) (xs ++ zs) u (front xs) hu in
-        let c : ℕ = sum.0 in
+        let c = sum.0 in
         let zero_c : c ≡ 0 =
-        sym (ap₂ (add x.q) (zero-combination x.q x.m f p u (xs ++ ys) zx)
-        (ap (mul x.q c) one ∙ f.mul_one c sum.1) ∙ zero-add-code x.q f c sum.1) ∙ sym (sum.2 p) ∙ none in
+        cc (zero-combination x.q x.m f p u (xs ++ ys) zx, f.mul_one c sum.1, zero-add-code x.q f c sum.1, sum.2 p) in
         ext x.q x.m f new old
         (combination-vector x.q x.m f u (xs ++ zs)
         (raised-vectors x.q x.m f v hv (xs ++ ys) (xs ++ zs) (front xs) all-rows))
         (combination-vector x.q x.m f u (xs ++ ys) all-rows)
-        (λ p'. sum.2 p' ∙ ap (add x.q (dot x.q old p')) (ap (λ z. mul x.q z (dot x.q v p')) zero_c
-        ∙ zero-mul x.q f (dot x.q v p')) ∙ f.add_zero (dot x.q old p') (dot_code x.q f old p'))
+        (λ p'. cc (sum.2 p', zero-mul x.q f (dot x.q v p'), f.add_zero (dot x.q old p') (dot_code x.q f old p')))
 
     new-rows : AreVectors x.q x.m (xs ++ zs)
     new-rows = raised-vectors x.q x.m f v hv (xs ++ ys) (xs ++ zs) (front xs) all-rows
@@ -179,38 +180,37 @@ module _ (x : Strata) (f : IsField x.q) where
         let sw = raised-sum x.q x.m f v (xs ++ ys) (xs ++ zs) w (front xs) hw in
         let factor : (t : List ℕ) (c : ℕ) → c < x.q
         → dot x.q (new-of t) p ≡ add x.q (dot x.q (old-of t) p) (mul x.q c (dot x.q v p)) → dot x.q (new-of t) p ≡ c =
-        λ t c low is. is ∙ ap₂ (add x.q) (zero-combination x.q x.m f p t (xs ++ ys) zx)
-        (ap (mul x.q c) one ∙ f.mul_one c low) ∙ zero-add-code x.q f c low in
+        λ t c low is. cc (zero-combination x.q x.m f p t (xs ++ ys) zx, f.mul_one c low, zero-add-code x.q f c low) in
         let cs : sw.0 ≡ su.0 =
-        sym (factor w sw.0 sw.1 (sw.2 p)) ∙ ap (λ z. dot x.q z p) same ∙ factor u su.0 su.1 (su.2 p) in
+        cc (factor w sw.0 sw.1 (sw.2 p), factor u su.0 su.1 (su.2 p)) in
         ext x.q x.m f (old-of w) (old-of u) (combination-vector x.q x.m f w (xs ++ ys) all-rows)
         (combination-vector x.q x.m f u (xs ++ ys) all-rows)
         (λ p'.
-        let a : ℕ = dot x.q (old-of w) p' in
-        let b : ℕ = dot x.q (old-of u) p' in
-        let k : ℕ = mul x.q su.0 (dot x.q v p') in
+        let a = dot x.q (old-of w) p' in
+        let b = dot x.q (old-of u) p' in
+        let k = mul x.q su.0 (dot x.q v p') in
         let both : add x.q a k ≡ add x.q b k =
-        ap (λ c. add x.q a (mul x.q c (dot x.q v p'))) (sym cs) ∙ sym (sw.2 p') ∙ ap (λ z. dot x.q z p') same
-        ∙ su.2 p' in
+        cc (sw.2 p', su.2 p') in
         let back : (c : ℕ) → c < x.q → add x.q k (add x.q (add x.q c k) (mul x.q (neg x.q 1) k)) ≡ add x.q c k =
         λ c low. add-over x.q f k (add x.q c k) (f.mul_code su.0 (dot x.q v p')) (f.add_code c k) in
         let alone : (c : ℕ) → c < x.q → add x.q (add x.q c k) (mul x.q (neg x.q 1) k) ≡ c =
-        λ c low. f.add_assoc c k (mul x.q (neg x.q 1) k)
-        ∙ ap (add x.q c) (add-negated x.q f k (f.mul_code su.0 (dot x.q v p'))) ∙ f.add_zero c low in
-        sym (alone a (dot_code x.q f (old-of w) p')) ∙ ap (λ z. add x.q z (mul x.q (neg x.q 1) k)) both
-        ∙ alone b (dot_code x.q f (old-of u) p'))
+        λ c low. cc (
+          f.add_assoc c k (mul x.q (neg x.q 1) k),
+          add-negated x.q f k (f.mul_code su.0 (dot x.q v p')),
+          f.add_zero c low,
+        ) in
+        cc (alone a (dot_code x.q f (old-of w) p'), alone b (dot_code x.q f (old-of u) p')))
 
     effects-fewer : (u : List ℕ) → IsVector x.q (length (xs ++ ys)) u
         → effects_at x.q x.m (xs ++ zs) (new-of u) ≤ effects_at x.q x.m (xs ++ ys) (old-of u)
     unfolding effects_at
     effects-fewer u hu =
-        let n : ℕ = length (xs ++ ys) in
+        let n = length (xs ++ ys) in
         let new : List ℕ → ℕ =
         λ w. cond (eqb (number x.q (new-of w)) (number x.q (new-of u)) && is_effect (weight w)) 1 0 in
         let old : List ℕ → ℕ =
         λ w. cond (eqb (number x.q (old-of w)) (number x.q (old-of u)) && is_effect (weight w)) 1 0 in
-        subst (λ j. sum_by new (points x.q j) ≤ sum_by old (points x.q n))
-        (sym (raised-length x.q x.m f v (xs ++ ys) (xs ++ zs) (front xs)))
+        rw (raised-length x.q x.m f v (xs ++ ys) (xs ++ zs) (front xs))
         (sum_by-le new old (points x.q n) (recursion_from_All _ (points x.q n)
         (all-points x.q n (omega (arith, f.more_than_one)) (λ w. new w ≤ old w) (λ w hw.
         one-less (eqb (number x.q (new-of w)) (number x.q (new-of u)))
@@ -224,12 +224,11 @@ module _ (x : Strata) (f : IsField x.q) where
         → words_in x.q x.m T (xs ++ zs) k ≤ words_in x.q x.m S (xs ++ ys) k
     unfolding words_in
     fewer-by T S less k =
-        let some : 0 < x.q = omega (arith, f.more_than_one) in
-        let n : ℕ = length (xs ++ ys) in
+        let some : 0 < x.q = omega arith in
+        let n = length (xs ++ ys) in
         let new : List ℕ → ℕ = λ u. cond (T (new-of u) && eqb (weight u) k) 1 0 in
         let old : List ℕ → ℕ = λ u. cond (S (old-of u) && eqb (weight u) k) 1 0 in
-        subst (λ j. sum_by new (points x.q j) ≤ sum_by old (points x.q n))
-        (sym (raised-length x.q x.m f v (xs ++ ys) (xs ++ zs) (front xs)))
+        rw (raised-length x.q x.m f v (xs ++ ys) (xs ++ zs) (front xs))
         (sum_by-le new old (points x.q n) (recursion_from_All _ (points x.q n)
         (all-points x.q n some (λ u. new u ≤ old u) (λ u hu.
         one-less (T (new-of u)) (S (old-of u)) (eqb (weight u) k) (less u hu)))))
@@ -238,12 +237,11 @@ module _ (x : Strata) (f : IsField x.q) where
         → words_in x.q x.m T (xs ++ zs) k ≤ words_in x.q x.m T (xs ++ ys) k
     unfolding words_in
     fewer T none k =
-        let some : 0 < x.q = omega (arith, f.more_than_one) in
-        let n : ℕ = length (xs ++ ys) in
+        let some : 0 < x.q = omega arith in
+        let n = length (xs ++ ys) in
         let new : List ℕ → ℕ = λ u. cond (T (combination x.q x.m u (xs ++ zs)) && eqb (weight u) k) 1 0 in
         let old : List ℕ → ℕ = λ u. cond (T (combination x.q x.m u (xs ++ ys)) && eqb (weight u) k) 1 0 in
-        subst (λ j. sum_by new (points x.q j) ≤ sum_by old (points x.q n))
-        (sym (raised-length x.q x.m f v (xs ++ ys) (xs ++ zs) (front xs)))
+        rw (raised-length x.q x.m f v (xs ++ ys) (xs ++ zs) (front xs))
         (sum_by-le new old (points x.q n) (recursion_from_All _ (points x.q n)
         (all-points x.q n some (λ u. new u ≤ old u) (λ u hu.
         one-less (T (combination x.q x.m u (xs ++ zs))) (T (combination x.q x.m u (xs ++ ys))) (eqb (weight u) k)
@@ -254,12 +252,11 @@ module _ (x : Strata) (f : IsField x.q) where
     spanned-none : (u : List ℕ) → IsVector x.q x.m u → in_span x.q x.m bs u ≡ true → dot x.q u p ≡ 0
     spanned-none u hu t =
         let s = in_span-true x.q x.m f bs u rows.bases hu t in
-        ap (λ z. dot x.q z p) (sym s.gives) ∙ zero-combination x.q x.m f p s.by bs zb
+        cc (s.gives, zero-combination x.q x.m f p s.by bs zb)
 
     counts-fewer : (b : Bool) (k : ℕ) → counts x bs xs zs b k ≤ counts x bs xs ys b k
     counts-fewer false k = fewer is_zero
-        (λ u hu t. ap (λ z. dot x.q z p) (zeros_from_weight u x.m hu.len (eqb-true (weight u) 0 t))
-        ∙ dot-zeros x.q f x.m p) k
+        (λ u hu t. cc (zeros_from_weight u x.m hu.len (eqb-true (weight u) 0 t), dot-zeros x.q f x.m p)) k
     counts-fewer true k =
         let few = fewer (is_in_base x bs)
         (λ u hu t. spanned-none u hu (and_parts (not (is_zero u)) (in_span x.q x.m bs u) t).1) k in
@@ -270,11 +267,11 @@ module _ (x : Strata) (f : IsField x.q) where
         (λ u hu t. elim (or_cases (in_span x.q x.m bs (new-of u))
         (nat_lt 1 (effects_at x.q x.m (xs ++ zs) (new-of u))) t) [
           | inl i ↦
-              let is : new-of u ≡ old-of u = old-sum u hu (spanned-none (new-of u)
+              let is = old-sum u hu (spanned-none (new-of u)
               (combination-vector x.q x.m f u (xs ++ zs) new-rows) i) in
-              or_left _ _ (subst (λ z. in_span x.q x.m bs z ≡ true) is i)
+              or_left _ _ (rw is at i)
           | inr l ↦
-              let more : 1 < effects_at x.q x.m (xs ++ zs) (new-of u) = ltb-true _ _ l in
+              let more = ltb-true _ _ l in
               let few = effects-fewer u hu in
               let old : 1 < effects_at x.q x.m (xs ++ ys) (old-of u) = omega arith in
               or_right _ _ (lt-ltb _ _ old)
@@ -287,7 +284,7 @@ module _ (x : Strata) (f : IsField x.q) where
     outside-raised cs (u ∷ us) [] h hu z out = absurd h
     outside-raised cs (u ∷ us) (w ∷ ws) h hu z out = elim h [
       | inl s ↦ (
-        subst (λ r. in_span x.q x.m bs r ≡ false) s.0 out.0,
+        rw s.0 at out.0,
         outside-raised (cs ++ u ∷ []) us ws s.1 hu.1 z.1 out.1,
       )
       | inr s ↦ (
@@ -353,36 +350,36 @@ module _ (x : Strata) (f : IsField x.q) where
   step : (bs xs ys : List (List ℕ)) → Rows x bs xs ys → x.m ≤ x.h + x.n
       → (rank_after x.q x.m bs ys + x.h ≡ x.m) ⊎ Step bs xs ys
   step bs xs ys rows many =
-      let hall : AreVectors x.q x.m (bs ++ ys) = each-append (λ r. IsVector x.q x.m r) bs ys rows.bases rows.others in
+      let hall = each-append (λ r. IsVector x.q x.m r) bs ys rows.bases rows.others in
       let made = to_form x.q x.m f (bs ++ ys) hall in
-      let a : List ℕ → List ℕ = made.0 in
-      let b1 : List (List ℕ) = map a bs in
-      let x1 : List (List ℕ) = map a xs in
-      let y1 : List (List ℕ) = map a ys in
-      let rows1 : Rows x b1 x1 y1 = rows-changed a made.1.change bs xs ys rows in
+      let a = made.0 in
+      let b1 = map a bs in
+      let x1 = map a xs in
+      let y1 = map a ys in
+      let rows1 = rows-changed a made.1.change bs xs ys rows in
       let split = formed-append x.m 0 made.1.rank b1 y1
-      (subst (λ r. IsFormedTo x.m 0 r made.1.rank) (map-append a bs ys) made.1.formed) in
-      let low : rank_of x.q x.m b1 + 0 ≡ split.0 =
+      (rw (map-append a bs ys) at made.1.formed) in
+      let low =
       rank-formed x.q x.m f 0 split.0 [] b1 rows1.bases (spans-none x.q x.m f) split.1 in
       let height = rows1.height in
       let base : split.0 ≡ x.h = omega arith in
-      let spans : Spans x.q x.m split.0 b1 =
+      let spans =
       spans-formed x.q x.m 0 split.0 f [] b1 rows1.bases (spans-none x.q x.m f) split.1 in
-      let high : rank_after x.q x.m b1 y1 + split.0 ≡ made.1.rank =
+      let high =
       rank-formed x.q x.m f split.0 made.1.rank b1 y1 rows1.others spans split.2 in
-      let kept : rank_after x.q x.m b1 y1 ≡ rank_after x.q x.m bs ys =
+      let kept =
       rank-change x.q x.m f a made.1.change bs ys rows.bases rows.others in
-      let j : ℕ = made.1.rank in
-      let most : j ≤ x.m = formed-room x.m 0 j (map a (bs ++ ys)) made.1.formed (omega arith) in
+      let j = made.1.rank in
+      let most = formed-room x.m 0 j (map a (bs ++ ys)) made.1.formed (omega arith) in
       elim (cases_lt j x.m) [
         | inr full ↦ inl (omega arith)
         | inl less ↦
-            let p : List ℕ = unit x.m j in
-            let hp : IsVector x.q x.m p = unit-vector x.q x.m j f in
-            let up : split.0 ≤ j = formed-up x.m split.0 j y1 split.2 in
-            let zb : ZeroAt x.q x.m f p b1 =
+            let p = unit x.m j in
+            let hp = unit-vector x.q x.m j f in
+            let up = formed-up x.m split.0 j y1 split.2 in
+            let zb =
             zero-short j b1 rows1.bases (shorter split.0 j b1 up (formed-short x.m 0 split.0 b1 split.1)) in
-            let zy : ZeroAt x.q x.m f p y1 =
+            let zy =
             zero-short j y1 rows1.others (formed-short x.m split.0 j y1 split.2) in
             let zx : ZeroAt x.q x.m f p x1 = elim (rows1.same) [
               | inl e ↦ subst (ZeroAt x.q x.m f p) (sym (empty x1 (rows1.first_count ∙ e))) tt
@@ -390,9 +387,9 @@ module _ (x : Strata) (f : IsField x.q) where
             ] in
             let count = rows1.other_count in
             let next = raise_some x.q x.m f p b1 y1 rows1.bases rows1.others (omega arith) in
-            let one : dot x.q p p ≡ 1 = unit-unit x.q x.m j f less in
-            let zxy : ZeroAt x.q x.m f p (x1 ++ y1) = each-append (λ r. dot x.q r p ≡ 0) x1 y1 zx zy in
-            let rise : rank_after x.q x.m b1 y1 + 1 ≤ rank_after x.q x.m b1 next.0 =
+            let one = unit-unit x.q x.m j f less in
+            let zxy = each-append (λ r. dot x.q r p ≡ 0) x1 y1 zx zy in
+            let rise =
             rank-raised x.q x.m f p hp p one b1 y1 next.0 next.1 rows1.bases rows1.others zb zy in
             inr (record {
               bases = b1;

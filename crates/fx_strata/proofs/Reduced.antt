@@ -1,7 +1,7 @@
 -- Every design with a base has a canonical one with as many words of each kind.
 use Rattle.std.proofs.Common.{ℕ, ◌≡◌, ◌<◌, ◌≤◌, ◌+◌, ◌-◌, ◌^◌, suc, Bool, true, false, eqb, List, [], ◌∷◌, ◌++◌, map}
 use Rattle.std.proofs.Common.{take, drop, refl, sym, subst, ◌∙◌, ap, arith, inl, inr, ◌⊎◌, eq-eqb, length-drop}
-use Rattle.std.proofs.Common.{take-append-drop, not, cond, eqb-true, ◌&&◌}
+use Rattle.std.proofs.Common.{take-append-drop, not, eqb-true}
 use Rattle.std.specs.List.{AllByRecursion, sum_by}
 use Rattle.std.proofs.lemmas.Bool.{cases_eq, cond-true, cond-false, ne_eqb, false_from_ne_true, and_from}
 use Rattle.std.proofs.lemmas.List.{length-take, map-append}
@@ -10,7 +10,7 @@ use Rattle.std.proofs.Math.Seq.{take-append_seam}
 use Rattle.fx_base.proofs.Lists.{each-append, each-take, each-drop}
 use Rattle.fx_designs.specs.Galois.{IsField, number}
 use Rattle.fx_designs.specs.Vectors.{IsVector, is_zero, weight, zeros}
-use Rattle.fx_designs.specs.Spans.{in_span, rank_of, rank_after}
+use Rattle.fx_designs.specs.Spans.{in_span, rank_after}
 use Rattle.fx_laws.specs.Changes.{IsChange, IsShort, IsFormedTo}
 use Rattle.fx_laws.proofs.Space.{AreVectors}
 use Rattle.fx_laws.proofs.Tests.{bool_same}
@@ -22,7 +22,7 @@ use Rattle.fx_laws.proofs.Follows.{formed-append, formed-short}
 use Rattle.fx_laws.proofs.Prefixes.{number-unit}
 use Rattle.fx_laws.proofs.Weights.{zeros_from_weight}
 use Rattle.fx_strata.proofs.Lists.{IsMember}
-use Rattle.fx_strata.proofs.Falls.{free-nonzero}
+use Rattle.fx_laws.proofs.Falling.{free-nonzero}
 use Rattle.fx_strata.specs.Designs.{words_of, unclear_of, Strata, base_of, IsStratified}
 use Rattle.fx_strata.specs.Words.{words_in}
 use Rattle.fx_strata.specs.Sums.{is_in_base, sums_of, unclear_sums}
@@ -39,11 +39,11 @@ use Rattle.fx_strata.proofs.Raised.{Rows, Full, counts, spans-formed, raised}
 -- the unit vectors are among formed rows
 formed-member : (q m k n : ℕ) (rows : List (List ℕ)) → IsFormedTo m k rows n → (i : ℕ) → k ≤ i → i < n
     → IsMember (q ^ i) (map (number q) rows)
-formed-member q m k n [] h i low high = absurd (omega (arith, h))
+formed-member q m k n [] h i low high = absurd (omega arith)
 formed-member q m k n (r ∷ rows) h i low high = elim h [
   | inl s ↦ inr (formed-member q m k n rows s.1 i low high)
   | inr s ↦ elim (cases_eq i k) [
-    | inl e ↦ inl (ap (number q) s.1 ∙ number-unit q m k s.0 ∙ ap (λ z. q ^ z) (sym e))
+    | inl e ↦ inl (cc (s.1, number-unit q m k s.0))
     | inr ne ↦ inr (formed-member q m (suc k) n rows s.2 i (omega arith) high)
   ]
 ]
@@ -57,16 +57,16 @@ module _ (x : Strata) (f : IsField x.q) (bs xs ys : List (List ℕ)) (rows : Row
 
     split : (j : ℕ) × IsFormedTo x.m 0 (map a bs) j × IsFormedTo x.m j (map a ys) made.rank
     split = formed-append x.m 0 made.rank (map a bs) (map a ys)
-        (subst (λ r. IsFormedTo x.m 0 r made.rank) (map-append a bs ys) made.formed)
+        (rw (map-append a bs ys) at made.formed)
 
     hab : AreVectors x.q x.m (map a bs)
     hab = map-vectors x.q x.m f a change bs rows.bases
 
     height : split.0 ≡ x.h
     height =
-        let e : rank_of x.q x.m (map a bs) + 0 ≡ split.0 =
+        let e =
         rank-formed x.q x.m f 0 split.0 [] (map a bs) hab (spans-none x.q x.m f) split.1 in
-        let e' : rank_of x.q x.m (map a bs) ≡ rank_of x.q x.m bs = rank-change x.q x.m f a change [] bs tt rows.bases in
+        let e' = rank-change x.q x.m f a change [] bs tt rows.bases in
         let e2 = rows.height in
         omega arith
 
@@ -77,26 +77,26 @@ module _ (x : Strata) (f : IsField x.q) (bs xs ys : List (List ℕ)) (rows : Row
     spans = spans-formed x.q x.m 0 x.h f [] (map a bs) hab (spans-none x.q x.m f) formed-low
 
     formed-part : IsFormedTo x.m x.h (map a ys) made.rank
-    formed-part = subst (λ n. IsFormedTo x.m n (map a ys) made.rank) height split.2
+    formed-part = rw height at split.2
 
     whole : made.rank ≡ x.m
     whole =
-        let e : rank_after x.q x.m (map a bs) (map a ys) + x.h ≡ made.rank =
+        let e =
         rank-formed x.q x.m f x.h made.rank (map a bs) (map a ys) (map-vectors x.q x.m f a change ys rows.others) spans
         formed-part in
-        let e' : rank_after x.q x.m (map a bs) (map a ys) ≡ rank_after x.q x.m bs ys =
+        let e' =
         rank-change x.q x.m f a change bs ys rows.bases rows.others in
         omega arith
 
     room : x.h ≤ x.m
-    room = omega (arith, rank)
+    room = omega arith
 
     formed-high : IsFormedTo x.m x.h (map a ys) x.m
-    formed-high = subst (λ n. IsFormedTo x.m x.h (map a ys) n) whole formed-part
+    formed-high = rw whole at formed-part
 
     keeps : (v : List ℕ) → IsVector x.q x.m v → in_span x.q x.m (base x) (a v) ≡ in_span x.q x.m bs v
     keeps v hv =
-        let hav : IsVector x.q x.m (a v) = change.vector v hv in
+        let hav = change.vector v hv in
         bool_same (in_span x.q x.m (base x) (a v)) (in_span x.q x.m (map a bs) (a v))
         (λ e. in_span-holds x.q x.m f (map a bs) (a v) (spans.all (a v) hav (in-base x f room (a v) hav e)))
         (λ e. base-in x f room (a v) hav
@@ -116,7 +116,7 @@ module _ (x : Strata) (f : IsField x.q) (bs xs ys : List (List ℕ)) (rows : Row
     inside = elim (rows.same) [
       | inl e ↦ inl e
       | inr is ↦
-          let formed : IsFormedTo x.m 0 (map a xs) x.h = subst (λ l. IsFormedTo x.m 0 (map a l) x.h) is formed-low in
+          let formed : IsFormedTo x.m 0 (map a xs) x.h = rw is at formed-low in
           inr (
             spanned xs rows.firsts (formed-short x.m 0 x.h (map a xs) formed),
             λ i high. formed-member x.q x.m 0 x.h (normed x f room a change xs)
@@ -137,9 +137,7 @@ module _ (x : Strata) (f : IsField x.q) (bs xs ys : List (List ℕ)) (rows : Row
 
     as-counts : (b : Bool) (k : ℕ) → sums_of x bs (xs ++ ys) b k ≡ counts x bs xs ys b k
     as-counts false k = refl
-    as-counts true k = ap (λ l. words_in x.q x.m (is_in_base x bs) (xs ++ ys) k
-        - words_in x.q x.m (is_in_base x bs) l k)
-        (subst (λ n. take n (xs ++ ys) ≡ xs) rows.first_count (take-append_seam xs ys))
+    as-counts true k = cc (subst (λ n. take n (xs ++ ys) ≡ xs) rows.first_count (take-append_seam xs ys))
 
     result-words : (b : Bool) (k : ℕ) → words x result b k ≡ counts x bs xs ys b k
     result-words b k = words-kept x f room a change bs keeps xs ys rows.first_count rows.other_count rows.firsts
@@ -174,9 +172,8 @@ module _ (x : Strata) (f : IsField x.q) (many : HasFactors x) (blocks factors : 
   ]
 
   given-sums : (b : Bool) (k : ℕ) → counts x bs xs ys b k ≡ sums_of x bs factors b k
-  given-sums false k = ap (λ l. words_in x.q x.m is_zero l k) (take-append-drop x.w factors)
-  given-sums true k = ap (λ l. words_in x.q x.m (is_in_base x bs) l k - words_in x.q x.m (is_in_base x bs) xs k)
-      (take-append-drop x.w factors)
+  given-sums false k = cc (take-append-drop x.w factors)
+  given-sums true k = cc (take-append-drop x.w factors)
 
   given-counts : (b : Bool) (k : ℕ) → counts x bs xs ys b k ≡ words_of x bs factors b k
   given-counts b k = given-sums b k
@@ -196,7 +193,7 @@ module _ (x : Strata) (f : IsField x.q) (many : HasFactors x) (blocks factors : 
   none-added : sum_by (added x.q x.m f g xs) ys ≡ 0
   unfolding words_in
   none-added =
-      let more : total x.q x.m f g xs + sum_by (added x.q x.m f g xs) ys ≤ total x.q x.m f g (ys ++ xs) =
+      let more =
       total-more x.q x.m f g ys xs hy hx in
       let same = total-turned x.q x.m f g xs ys in
       let none : total x.q x.m f g (xs ++ ys) - total x.q x.m f g xs ≡ 0 = given-counts true 1 ∙ st.none_confounded in
@@ -207,10 +204,10 @@ module _ (x : Strata) (f : IsField x.q) (many : HasFactors x) (blocks factors : 
   out [] hv none some = tt
   out (v ∷ vs) hv none some = (
     false_from_ne_true (in_span x.q x.m bs v) (λ t.
-        let nonzero : is_zero v ≡ false =
+        let nonzero =
         false_from_ne_true (is_zero v) (λ z. (let h = hv.0 in
         some.0 (zeros_from_weight v x.m h.len (eqb-true (weight v) 0 z)))) in
-        let one : g 1 v ≡ 1 = ap (λ b. cond {A = ℕ} (b && eqb 1 1) 1 0) (and_from _ _ (ap not nonzero) t) in
+        let one : g 1 v ≡ 1 = cc (and_from _ _ (ap not nonzero) t) in
         let adds = total-adds x.q x.m f g v xs hv.0 hx in
         let zero = none.0 in
         omega arith),
@@ -234,7 +231,7 @@ module _ (x : Strata) (f : IsField x.q) (many : HasFactors x) (blocks factors : 
   }
 
   given-unclear : unclear_sums x bs (xs ++ ys) ≡ unclear_of x bs factors
-  given-unclear = ap (unclear_sums x bs) (take-append-drop x.w factors) ∙ sym (unclear-are-sums x f bs factors hb hf)
+  given-unclear = cc (take-append-drop x.w factors, unclear-are-sums x f bs factors hb hf)
 
   full : Full x f bs xs ys
   full = raised x f x.m bs xs ys rows many (omega arith)

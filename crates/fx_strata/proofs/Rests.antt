@@ -31,12 +31,10 @@ module _ (d : Dimensions) (from : ℕ) where
       → AreLater d from (last_row (us ++ r ∷ done)) xs
   later-after b us [] xs r h =
       let long : length (us ++ r ∷ []) - 1 ≡ length us + 0 = (let e = length-append us (r ∷ []) in omega arith) in
-      subst (λ z. AreLater d from z xs)
-      (sym (ap (slice_index (us ++ r ∷ [])) (let e : length us + 0 ≡ length us = omega arith in long ∙ e)
-      ∙ get_or-append_seam us r [] 0)) h.2
+      rw (ap (slice_index (us ++ r ∷ [])) (let e : length us + 0 ≡ length us = omega arith in long ∙ e)
+      ∙ get_or-append_seam us r [] 0) h.2
   later-after b us (r' ∷ done) xs r h =
-      subst (λ l. AreLater d from (last_row l) xs) (append_assoc us (r ∷ []) (r' ∷ done))
-      (later-after r (us ++ r ∷ []) done xs r' h.2)
+      rw (append_assoc us (r ∷ []) (r' ∷ done)) at (later-after r (us ++ r ∷ []) done xs r' h.2)
 
   -- they are no more than all that may come
   pub fits : (n : ℕ) (xs : List ℕ) → AreLater d from n xs
@@ -45,21 +43,18 @@ module _ (d : Dimensions) (from : ℕ) where
   fits zero (x ∷ xs) h = absurd (let e = h.1 in omega arith)
   fits (suc n) [] h = omega arith
   fits (suc n) (x ∷ xs) h =
-      let rest : List ℕ = filter (λ r. is_later d from r) (falling n) in
+      let rest = filter (λ r. is_later d from r) (falling n) in
       elim (cases_eq x n) [
         | inl e ↦
-            let on : is_later d from n ≡ true = subst (λ z. is_later d from z ≡ true) e h.0 in
-            let less = fits n xs (subst (λ z. AreLater d from z xs) e h.2) in
-            subst (λ l. suc (length xs) ≤ length l) (sym (cond-true (is_later d from n) (n ∷ rest) rest on))
-            (omega arith)
+            let on : is_later d from n ≡ true = rw e at h.0 in
+            let less = fits n xs (rw e at h.2) in
+            rw (cond-true (is_later d from n) (n ∷ rest) rest on) (omega arith)
         | inr ne ↦
             let low : x < n = (let e = h.1 in omega arith) in
             let less = fits n (x ∷ xs) (h.0, low, h.2) in
             elim (cases_Bool (is_later d from n)) [
-              | inl t ↦ subst (λ l. suc (length xs) ≤ length l)
-                  (sym (cond-true (is_later d from n) (n ∷ rest) rest t)) (omega arith)
-              | inr o ↦ subst (λ l. suc (length xs) ≤ length l)
-                  (sym (cond-false (is_later d from n) (n ∷ rest) rest o)) (omega arith)
+              | inl t ↦ rw (cond-true (is_later d from n) (n ∷ rest) rest t) (omega arith)
+              | inr o ↦ rw (cond-false (is_later d from n) (n ∷ rest) rest o) (omega arith)
             ]
       ]
 
@@ -90,20 +85,21 @@ module _ (x : Strata) where
       let lu : length us ≡ st.begin + st.units =
       (let e = length-append pre (units x.q st.first_unit st.units) in omega arith) in
       let whole : c ++ s ≡ us ++ (stage.others ++ post) =
-      is ∙ ap (λ l. pre ++ (l ++ post)) stage.is
-      ∙ ap (λ l. pre ++ l) (append_assoc (units x.q st.first_unit st.units) stage.others post)
-      ∙ sym (append_assoc pre (units x.q st.first_unit st.units) (stage.others ++ post)) in
+      cc (
+        stage.is,
+        append_assoc (units x.q st.first_unit st.units) stage.others post,
+        append_assoc pre (units x.q st.first_unit st.units) (stage.others ++ post),
+      ) in
       let one = split c s us (stage.others ++ post) whole (omega arith) in
-      let done : List ℕ = one.0 in
+      let done = one.0 in
       let lr : length rows ≡ st.units + length stage.others =
-      ap (λ (l : List ℕ). length l) stage.is ∙ length-append (units x.q st.first_unit st.units) stage.others
-      ∙ ap (λ (n : ℕ). n + length stage.others) many in
+      cc (stage.is, length-append (units x.q st.first_unit st.units) stage.others) in
       let lc : length c ≡ st.begin + st.units + length done =
-      ap (λ (l : List ℕ). length l) one.1 ∙ length-append us done ∙ ap (λ (n : ℕ). n + length done) lu in
+      cc (one.1, length-append us done) in
       let two = split stage.others post done s one.2 (omega arith) in
-      let xs : List ℕ = two.0 in
+      let xs = two.0 in
       let lo : length stage.others ≡ length done + length xs =
-      ap (λ (l : List ℕ). length l) two.1 ∙ length-append done xs in
+      cc (two.1, length-append done xs) in
       let falls : AreLater d st.first_unit (x.q ^ (st.first_unit + st.units)) (done ++ xs) =
       subst (AreLater d st.first_unit (x.q ^ (st.first_unit + st.units))) two.1 stage.later in (
         xs,
@@ -119,13 +115,11 @@ module _ (x : Strata) where
           (cond (eqb (length c) (st.begin + st.units)) (x.q ^ (st.first_unit + st.units)) (last_row c)) xs
       below st us [] xs c e lc falls =
           let same : length c ≡ st.begin + st.units = omega arith in
-          subst (λ z. AreLater d st.first_unit z xs)
-          (sym (cond-true (eqb (length c) (st.begin + st.units)) (x.q ^ (st.first_unit + st.units)) (last_row c)
-          (eq-eqb (length c) (st.begin + st.units) same))) falls
+          rw (cond-true (eqb (length c) (st.begin + st.units)) (x.q ^ (st.first_unit + st.units)) (last_row c)
+          (eq-eqb (length c) (st.begin + st.units) same)) falls
       below st us (r ∷ done) xs c e lc falls =
           let other : length c ≡ st.begin + st.units → ⊥ = λ k. omega arith in
-          subst (λ z. AreLater d st.first_unit z xs)
-          (sym (cond-false (eqb (length c) (st.begin + st.units)) (x.q ^ (st.first_unit + st.units)) (last_row c)
-          (ne_eqb (length c) (st.begin + st.units) other)))
+          rw (cond-false (eqb (length c) (st.begin + st.units)) (x.q ^ (st.first_unit + st.units)) (last_row c)
+          (ne_eqb (length c) (st.begin + st.units) other))
           (subst (λ l. AreLater d st.first_unit (last_row l) xs) (sym e)
           (later-after d st.first_unit (x.q ^ (st.first_unit + st.units)) us done xs r falls))

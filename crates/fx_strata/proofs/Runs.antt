@@ -45,7 +45,7 @@ module _ (q m : ℕ) (f : IsField q) (factors base : List (List ℕ)) (hf : AreV
   runs = runs_of q m rows
 
   some : 0 < q
-  some = omega (arith, f.more_than_one)
+  some = omega arith
 
   front : take s rows ≡ factors
   front = take-append_seam factors base
@@ -66,10 +66,10 @@ module _ (q m : ℕ) (f : IsField q) (factors base : List (List ℕ)) (hf : AreV
         (λ p. eqb (number q (drop s (levels_at q rows p))) z ≡ true → dot q u (levels_at q rows p) ≡ 0)
         (λ p hp e.
         let is : drop s (levels_at q rows p) ≡ levels_at q base p =
-        drop-map (λ r. dot q r p) s rows ∙ ap (λ l. levels_at q l p) behind in
-        let low : number q (levels_at q base p) < q ^ length base =
+        cc (drop-map (λ r. dot q r p) s rows, behind) in
+        let low =
         number-below q (length base) (levels_at q base p) (levels-vector q f base p) in
-        let same : number q (levels_at q base p) ≡ z = ap (number q) (sym is) ∙ eqb-true _ _ e in
+        let same : number q (levels_at q base p) ≡ z = cc (eqb-true _ _ e) in
         absurd (omega arith)))))),
   )
 
@@ -89,26 +89,26 @@ module _ (q m : ℕ) (f : IsField q) (factors base : List (List ℕ)) (hf : AreV
   -- constant in each group where the sum is in the base
   pub in-blocks : is_constant_in_blocks q s (q ^ length base) u runs ≡ in_span q m base (combination q m u factors)
   in-blocks =
-      let v : List ℕ = combination q m u factors in
-      let hv : IsVector q m v = combination-vector q m f u factors hf in
+      let v = combination q m u factors in
+      let hv = combination-vector q m f u factors hf in
       elim (constant_or_balanced q m s f rows u hu (subst (AreVectors q m) (sym front) hf)
       (subst (AreVectors q m) (sym behind) hb)) [
         | inl h ↦
-            let inside : in_span q m base v ≡ true =
-            in_span-holds q m f base v (subst (λ l. InSpan q m base (combination q m u l)) front
-            (subst (λ l. InSpan q m l (combination q m u (take s rows))) behind h.0)) in
+            let inside =
+            in_span-holds q m f base v
+            (rw front at (subst (λ l. InSpan q m l (combination q m u (take s rows))) behind h.0)) in
             blocks-each h.1 ∙ sym inside
         | inr h ↦
             bool_same _ _ (λ e. absurd (h.2 (each-block e)))
-            (λ e. absurd (h.0 (subst (λ l. InSpan q m l (combination q m u (take s rows))) (sym behind)
+            (λ e. absurd (h.0 (rw behind
             (subst (λ l. InSpan q m base (combination q m u l)) (sym front) (in_span-true q m f base v hb hv e)))))
       ]
 
   -- and over all runs where it is zero
   pub over-all : is_constant q u (runs_of q m factors) ≡ is_zero (combination q m u factors)
   over-all =
-      let v : List ℕ = combination q m u factors in
-      let hv : IsVector q m v = combination-vector q m f u factors hf in
+      let v = combination q m u factors in
+      let hv = combination-vector q m f u factors hf in
       bool_same _ _
       (λ e. ap is_zero ((zero_sum_decides q m f factors hf u).0 e) ∙ eq-eqb (weight (zeros m)) 0 (weight-zeros m))
       (λ e. (zero_sum_decides q m f factors hf u).1 (zeros_from_weight v m hv.len (eqb-true (weight v) 0 e)))
@@ -126,10 +126,10 @@ module _ (q m : ℕ) (f : IsField q) where
       ∙ (let e : 0 + weight p ≡ weight p = omega arith in e))))
       ∙ zero-pick n (λ p. h (0 ∷ p)) in
       let others : (c : ℕ) → 1 ≤ c → g c ≡ 0 = λ c some.
-      sum_by-ext _ _ (points q n) (λ p. ap (λ b. cond b (h (c ∷ p)) 0) (not-zero c p some)) ∙ sum_by-zero (points q n)
+      sum_by-ext _ _ (points q n) (λ p. cc (not-zero c p some)) ∙ sum_by-zero (points q n)
       in
       points-sum q n (λ u. cond (is_zero u) (h u) 0)
-      ∙ ap (λ k. sum_by g (range_with_len 0 k)) (let e : q ≡ suc (q - 1) = omega (arith, f.more_than_one) in e)
+      ∙ ap (λ k. sum_by g (range_with_len 0 k)) (let e : q ≡ suc (q - 1) = omega arith in e)
       ∙ sum_by-cons g 0 (range_with_len 1 (q - 1))
       ∙ ap₂ (λ (a b : ℕ). a + b) first
       (sum_by-same g (λ c. 0) 1 (q - 1) (λ c low high. others c low) ∙ sum_by-zero (range_with_len 1 (q - 1)))
@@ -138,7 +138,7 @@ module _ (q m : ℕ) (f : IsField q) where
       not-zero : (c : ℕ) (p : List ℕ) → 1 ≤ c → is_zero (c ∷ p) ≡ false
       not-zero c p some =
           let e = sum_by-cons (λ c. cond (nat_lt 0 c) 1 0) c p in
-          let bit : cond {A = ℕ} (nat_lt 0 c) 1 0 ≡ 1 = ap (λ b. cond {A = ℕ} b 1 0) (lt-ltb 0 c some) in
+          let bit : cond {A = ℕ} (nat_lt 0 c) 1 0 ≡ 1 = cc (lt-ltb 0 c some) in
           ne_eqb (weight (c ∷ p)) 0 (λ z. omega arith)
 
   -- the words of the first rows alone
@@ -157,8 +157,7 @@ module _ (q m : ℕ) (f : IsField q) where
       (λ u. cond (is_zero (drop (suc (length xs)) u)) (g (weight u) (combination q m u (x ∷ (xs ++ ys)))) 0)
       ∙ sum_by-ext _ _ (codes_of q) (λ c.
       sum_by-ext _ _ (points q (length (xs ++ ys))) (λ p.
-      ap (λ (n : ℕ). cond (is_zero (drop (length xs) p)) (g n (plus q (scale q c x) (combination q m p (xs ++ ys)))) 0)
-      (sum_by-cons (λ c. cond (nat_lt 0 c) 1 0) c p))
+      cc (sum_by-cons (λ c. cond (nat_lt 0 c) 1 0) c p))
       ∙ front-words (rest c) xs ys hy)
       ∙ sym (total-cons q m f g x xs)
 
@@ -192,34 +191,35 @@ module _ (x : Strata) (f : IsField x.q) (base factors : List (List ℕ)) (hb : A
   n = length factors
 
   positive : 0 < x.q
-  positive = omega (arith, f.more_than_one)
+  positive = omega arith
 
   pub words-are-sums : (b : Bool) (k : ℕ) → words_of x base factors b k ≡ sums_of x base factors b k
   unfolding constant_words words_in
   words-are-sums false k = each-point x.q (length factors) positive
       (λ u. cond (eqb (weight u) k && is_constant x.q u (runs_of x.q x.m factors)) 1 0)
       (λ u. cond (is_zero (combination x.q x.m u factors) && eqb (weight u) k) 1 0)
-      (λ u hu. turned-and (eqb (weight u) k) (is_constant x.q u (runs_of x.q x.m factors))
-      ∙ ap (λ b. cond (b && eqb (weight u) k) 1 0) (over-all x.q x.m f factors base hf hb u hu))
+      (λ u hu. cc (
+        turned-and (eqb (weight u) k) (is_constant x.q u (runs_of x.q x.m factors)),
+        over-all x.q x.m f factors base hf hb u hu,
+      ))
   words-are-sums true k =
-      let g : ℕ → List ℕ → ℕ = counted x.q x.m f (is_in_base x base) k in
+      let g = counted x.q x.m f (is_in_base x base) k in
       let at : List ℕ → ℕ = λ u. g (weight u) (combination x.q x.m u factors) in
-      let ps : List (List ℕ) = points x.q (length factors) in
-      let here : words_of x base factors true k ≡ sum_by (λ u. cond (not (is_zero (drop x.w u))) (at u) 0) ps =
+      let ps = points x.q (length factors) in
+      let here =
       each-point x.q (length factors) positive (λ u. cond (is_confounded x base factors u && eqb (weight u) k) 1 0)
       (λ u. cond (not (is_zero (drop x.w u))) (at u) 0)
       (λ u hu.
-      arranged (is_zero (drop x.w u))
-      (is_constant_in_blocks x.q (length factors) (x.q ^ length base) u (runs_of x.q x.m (factors ++ base)))
-      (is_constant x.q u (runs_of x.q x.m factors)) (eqb (weight u) k)
-      ∙ ap₂ (λ i o. cond (not (is_zero (drop x.w u))) (cond {A = ℕ} ((not o && i) && eqb (weight u) k) 1 0) 0)
-      (in-blocks x.q x.m f factors base hf hb u hu) (over-all x.q x.m f factors base hf hb u hu)) in
+      cc (
+        arranged (is_zero (drop x.w u))
+            (is_constant_in_blocks x.q (length factors) (x.q ^ length base) u (runs_of x.q x.m (factors ++ base)))
+            (is_constant x.q u (runs_of x.q x.m factors)) (eqb (weight u) k),
+        in-blocks x.q x.m f factors base hf hb u hu,
+        over-all x.q x.m f factors base hf hb u hu,
+      )) in
       let lw : length (take x.w factors) ≡ x.w = (let e = length-take x.w factors in omega arith) in
       let firsts : sum_by (λ u. cond (is_zero (drop x.w u)) (at u) 0) ps ≡ total x.q x.m f g (take x.w factors) =
-      subst (λ l. sum_by (λ u. cond (is_zero (drop x.w u)) (g (weight u) (combination x.q x.m u l)) 0)
-      (points x.q (length l))
-      ≡ total x.q x.m f g (take x.w factors)) (take-append-drop x.w factors)
-      (subst (λ w. sum_by (λ u. cond (is_zero (drop w u)) (g (weight u)
+      rw (take-append-drop x.w factors) at (subst (λ w. sum_by (λ u. cond (is_zero (drop w u)) (g (weight u)
       (combination x.q x.m u (take x.w factors ++ drop x.w factors))) 0)
       (points x.q (length (take x.w factors ++ drop x.w factors))) ≡ total x.q x.m f g (take x.w factors)) lw
       (front-words x.q x.m f g (take x.w factors) (drop x.w factors)

@@ -1,10 +1,10 @@
 -- Short vectors have no higher rank than their length.
-use Rattle.std.proofs.Common.{ℕ, ◌≡◌, ◌<◌, ◌≤◌, ◌+◌, ◌-◌, zero, suc, cond, List, [], ◌∷◌, ◌++◌, map, length, take, refl}
-use Rattle.std.proofs.Common.{sym, subst, ◌∙◌, ap, ap₂, arith, length-append}
+use Rattle.std.proofs.Common.{ℕ, ◌≡◌, ◌<◌, ◌≤◌, ◌+◌, ◌-◌, zero, suc, List, [], ◌∷◌, ◌++◌, map, length, take, refl}
+use Rattle.std.proofs.Common.{sym, ◌∙◌, ap, ap₂, arith, length-append}
 use Rattle.std.specs.List.{AllByRecursion}
 use Rattle.std.proofs.lemmas.List.{length-map, map-append}
 use Rattle.fx_base.proofs.Lists.{each-append}
-use Rattle.fx_designs.specs.Galois.{add, mul, IsField}
+use Rattle.fx_designs.specs.Galois.{IsField}
 use Rattle.fx_designs.specs.Vectors.{IsVector, plus, scale, zeros, combination}
 use Rattle.fx_designs.specs.Spans.{in_span, rank_of, rank_after}
 use Rattle.fx_laws.specs.Changes.{IsShort}
@@ -25,8 +25,7 @@ module _ (q h j : ℕ) (f : IsField q) where
       go : (n : ℕ) → plus q (scale q c (zeros n)) (zeros n) ≡ zeros n
       go zero = refl
       go (suc n) =
-          ap₂ (λ a v. a ∷ v) (ap (λ z. add q z 0) (f.mul_zero c) ∙ f.add_zero 0 (omega (arith, f.more_than_one)))
-          (go n)
+          cc (f.mul_zero c, f.add_zero 0 (omega (arith, f.more_than_one)), go n)
 
   lift-sum : (n c : ℕ) (v w : List ℕ) → length v ≡ n → length w ≡ n
       → plus q (scale q c (lift v)) (lift w) ≡ lift (plus q (scale q c v) w)
@@ -35,7 +34,7 @@ module _ (q h j : ℕ) (f : IsField q) where
   lift-sum n c (a ∷ v) [] e e' = absurd (omega arith)
   lift-sum zero c (a ∷ v) (b ∷ w) e e' = absurd (omega arith)
   lift-sum (suc n) c (a ∷ v) (b ∷ w) e e' =
-      ap (λ l. add q (mul q c a) b ∷ l) (lift-sum n c v w (omega arith) (omega arith))
+      cc (lift-sum n c v w (omega arith) (omega arith))
 
   zeros-lift : (n : ℕ) → zeros (n + j) ≡ zeros n ++ zeros j
   zeros-lift zero = ap zeros (let e : 0 + j ≡ j = omega arith in e)
@@ -46,8 +45,10 @@ module _ (q h j : ℕ) (f : IsField q) where
   lift-combination [] rows hr = zeros-lift h
   lift-combination (a ∷ u) [] hr = zeros-lift h
   lift-combination (a ∷ u) (r ∷ rows) hr =
-      ap (plus q (scale q a (lift r))) (lift-combination u rows hr.1)
-      ∙ lift-sum h a r (combination q h u rows) hr.0.len (let v = combination-vector q h f u rows hr.1 in v.len)
+      cc (
+        lift-combination u rows hr.1,
+        lift-sum h a r (combination q h u rows) hr.0.len (let v = combination-vector q h f u rows hr.1 in v.len),
+      )
 
   lift-vector : (n : ℕ) (v : List ℕ) → IsVector q n v → IsVector q (n + j) (lift v)
   lift-vector n v hv = record {
@@ -75,14 +76,14 @@ module _ (q h j : ℕ) (f : IsField q) where
       (λ e. let s = in_span-true q (h + j) f (map lift bs) (lift r) (lift-vectors bs hb) (lift-vector h r hr) e in
       in_span-holds q h f bs r (record {
         by = s.by;
-        vector = subst (λ n. IsVector q n s.by) (length-map bs lift) s.vector;
+        vector = rw (length-map bs lift) at s.vector;
         gives = lift-back h (combination q h s.by bs) r (let v = combination-vector q h f s.by bs hb in v.len) hr.len
             (sym (lift-combination s.by bs hb) ∙ s.gives);
       }))
       (λ e. let s = in_span-true q h f bs r hb hr e in
       in_span-holds q (h + j) f (map lift bs) (lift r) (record {
         by = s.by;
-        vector = subst (λ n. IsVector q n s.by) (sym (length-map bs lift)) s.vector;
+        vector = rw (length-map bs lift) s.vector;
         gives = lift-combination s.by bs hb ∙ ap lift s.gives;
       }))
 
@@ -90,9 +91,11 @@ module _ (q h j : ℕ) (f : IsField q) where
       → rank_after q (h + j) (map lift bs) (map lift rows) ≡ rank_after q h bs rows
   rank-same bs [] hb hr = refl
   rank-same bs (r ∷ rows) hb hr =
-      ap₂ (λ (a b : ℕ). a + b) (ap (λ b. cond {A = ℕ} b 0 1) (span-same bs r hb hr.0))
-      (ap (λ l. rank_after q (h + j) l (map lift rows)) (sym (map-append lift bs (r ∷ [])))
-      ∙ rank-same (bs ++ r ∷ []) rows (each-append (λ r. IsVector q h r) bs (r ∷ []) hb (hr.0, tt)) hr.1)
+      cc (
+        span-same bs r hb hr.0,
+        map-append lift bs (r ∷ []),
+        rank-same (bs ++ r ∷ []) rows (each-append (λ r. IsVector q h r) bs (r ∷ []) hb (hr.0, tt)) hr.1,
+      )
 
 -- a short vector is its first entries and zeros
 short-is : (q h j : ℕ) (v : List ℕ) → IsVector q (h + j) v → IsShort h v
@@ -106,7 +109,7 @@ short-is q zero j (a ∷ v) hv s = (
 short-is q (suc h) j [] hv s = absurd (let l = hv.len in omega arith)
 short-is q (suc h) j (a ∷ v) hv s =
     let r = short-is q h j v (record { len = (let l = hv.len in omega arith); codes = hv.codes.1 }) s in (
-      ap (λ l. a ∷ l) r.0,
+      cc r.0,
       record { len = (let l = r.1 in let e = l.len in omega arith); codes = (hv.codes.0, (let l = r.1 in l.codes)) },
     )
 
@@ -115,12 +118,12 @@ pub rank-short : (q m h : ℕ) (f : IsField q) (rows : List (List ℕ)) → h �
 rank-short q m h f rows room hr short =
     let j : ℕ = m - h in
     let e : h + j ≡ m = omega arith in
-    let hr' : AreVectors q (h + j) rows = subst (λ n. AreVectors q n rows) (sym e) hr in
+    let hr' : AreVectors q (h + j) rows = rw e hr in
     let cut = all rows hr' short in
     let same : rank_of q (h + j) rows ≡ rank_of q h (map (take h) rows) =
-    ap (rank_of q (h + j)) cut.0 ∙ rank-same q h j f [] (map (take h) rows) tt cut.1 in
-    let most : rank_of q h (map (take h) rows) ≤ h = rank-most q h f (map (take h) rows) cut.1 in
-    let last : rank_of q m rows ≡ rank_of q (h + j) rows = ap (λ n. rank_of q n rows) (sym e) in
+    cc (cut.0, rank-same q h j f [] (map (take h) rows) tt cut.1) in
+    let most = rank-most q h f (map (take h) rows) cut.1 in
+    let last : rank_of q m rows ≡ rank_of q (h + j) rows = cc in
     omega arith
   where
     all : (rows : List (List ℕ)) → AreVectors q (h + (m - h)) rows → AllByRecursion (λ r. IsShort h r) rows

@@ -21,7 +21,7 @@ use Rattle.fx_laws.proofs.Tests.{bool_same}
 use Rattle.fx_laws.proofs.Raises.{sum_by-each}
 use Rattle.fx_laws.proofs.CanonicalTest.{rows-vectors}
 use Rattle.fx_laws.proofs.Weights.{weight-zeros, zeros_from_weight}
-use Rattle.fx_words.specs.Spreads.{spread, so_far}
+use Rattle.fx_words.specs.Spreads.{spread}
 use Rattle.fx_reduction.proofs.ConstantTests.{constant-words}
 use Rattle.fx_words.proofs.Spreads.{words-spread}
 use Rattle.fx_words.proofs.Levels.{so_far-all, so_far-zero}
@@ -69,12 +69,12 @@ drop-short (suc h) n (a ∷ v) e = drop-short h n v e
 digits-behind : (q h m r : ℕ) → h ≤ m → 0 < q → drop h (digits q m r) ≡ digits q (m - h) (r / q ^ h)
 digits-behind q zero m r low some =
     ap₂ (λ (n k : ℕ). digits q n k) (let e : m ≡ m - 0 = omega arith in e)
-    (sym (ap (λ n. r / n) (pow-zero q) ∙ div-one r))
+    (sym (cc (pow-zero q, div-one r)))
 digits-behind q (suc h) zero r low some = absurd (omega arith)
 digits-behind q (suc h) (suc m) r low some =
     digits-behind q h m (r / q) (omega arith) some
     ∙ ap₂ (λ (n k : ℕ). digits q n k) (let e : m - h ≡ suc m - suc h = omega arith in e)
-    (div-div-eq-div-mul r q (q ^ h) ∙ ap (λ n. r / n) (mul_comm q (q ^ h) ∙ sym (pow-suc q h)))
+    (cc (div-div-eq-div-mul r q (q ^ h), mul_comm q (q ^ h), pow-suc q h))
 
 -- what of some rows whose sum is zero is counted by a tally
 zero-spread : (q m : ℕ) (f : IsField q) (rows : List ℕ) (k : ℕ)
@@ -89,11 +89,10 @@ pushed : (q m : ℕ) (f : IsField q) (rows : List ℕ) (r k : ℕ) → 0 < k →
     → spread q m (vectors_of q m (rows ++ r ∷ [])) k 0
     ≡ spread q m (vectors_of q m rows) k 0 + (q - 1) * spread q m (vectors_of q m rows) (k - 1) r
 pushed q m f rows r k some low =
-    let big : 1 < q = f.more_than_one in
+    let big = f.more_than_one in
     let last : q - 1 + 1 ≡ q = omega arith in
     let zero_low : 0 < q ^ m = omega arith in
-    sym (so_far-all q m f rows r k 0 zero_low) ∙ ap (λ c. so_far q m rows r k 0 c) (sym last)
-    ∙ so_far-zero q m f rows r k (q - 1) some (omega arith) low
+    cc (so_far-all q m f rows r k 0 zero_low, so_far-zero q m f rows r k (q - 1) some (omega arith) low)
 
 both-kinds : (z i w : Bool) → (z ≡ true → i ≡ true)
     → cond {A = ℕ} ((not z && i) && w) 1 0 + cond {A = ℕ} (z && w) 1 0 ≡ cond (i && w) 1 0
@@ -106,21 +105,23 @@ both-kinds false false w h = refl
 
 module _ (x : Strata) (f : IsField x.q) (room : x.h ≤ x.m) where
   some : 0 < x.q
-  some = omega (arith, f.more_than_one)
+  some = omega arith
 
   drop-combination : (u rows : List ℕ) → drop x.h (combination x.q x.m u (vectors_of x.q x.m rows))
       ≡ combination x.q (x.m - x.h) u (vectors_of x.q (x.m - x.h) (behind_base x rows))
   drop-combination [] rows = drop-zeros x.h x.m
   drop-combination (a ∷ u) [] = drop-zeros x.h x.m
   drop-combination (a ∷ u) (r ∷ rows) =
-      let v : List ℕ = digits x.q x.m r in
-      let hv : IsVector x.q x.m v = digits-vector x.q x.m r some in
+      let v = digits x.q x.m r in
+      let hv = digits-vector x.q x.m r some in
       let hs = scale-vector x.q x.m f a v hv in
       let hc = combination-vector x.q x.m f u (vectors_of x.q x.m rows) (rows-vectors x.q x.m f rows) in
-      drop-plus x.q x.h (scale x.q a v) (combination x.q x.m u (vectors_of x.q x.m rows)) (hs.len ∙ sym hc.len)
-      ∙ ap₂ (plus x.q)
-      (drop-map (λ b. mul x.q a b) x.h v ∙ ap (scale x.q a) (digits-behind x.q x.h x.m r room some))
-      (drop-combination u rows)
+      cc (
+        drop-plus x.q x.h (scale x.q a v) (combination x.q x.m u (vectors_of x.q x.m rows)) (hs.len ∙ sym hc.len),
+        drop-map (λ b. mul x.q a b) x.h v,
+        digits-behind x.q x.h x.m r room some,
+        drop-combination u rows,
+      )
 
   behind-test : (v : List ℕ) → IsVector x.q x.m v → in_span x.q x.m (base x) v ≡ is_zero (drop x.h v)
   behind-test v hv = bool_same (in_span x.q x.m (base x) v) (is_zero (drop x.h v))
@@ -147,17 +148,16 @@ module _ (x : Strata) (f : IsField x.q) (room : x.h ≤ x.m) where
         ≡ words_in x.q (x.m - x.h) is_zero (vectors_of x.q (x.m - x.h) (behind_base x rows)) k
     unfolding words_in
     behind-same =
-        let B : List (List ℕ) = vectors_of x.q (x.m - x.h) (behind_base x rows) in
+        let B = vectors_of x.q (x.m - x.h) (behind_base x rows) in
         let g : List ℕ → ℕ = λ u. cond (is_zero (combination x.q (x.m - x.h) u B) && eqb (weight u) k) 1 0 in
         let same : length V ≡ length B =
         length-map rows (λ r. digits x.q x.m r)
         ∙ sym (length-map (behind_base x rows) (λ r. digits x.q (x.m - x.h) r) ∙ length-map rows (λ r. r / x.q ^ x.h))
         in
-        each (λ u. cond (in_span x.q x.m (base x) (combination x.q x.m u V) && eqb (weight u) k) 1 0) g
+        cc (each (λ u. cond (in_span x.q x.m (base x) (combination x.q x.m u V) && eqb (weight u) k) 1 0) g
         (λ u hu. ap (λ b. cond {A = ℕ} (b && eqb (weight u) k) 1 0)
         (behind-test (combination x.q x.m u V) (combination-vector x.q x.m f u V (rows-vectors x.q x.m f rows))
-        ∙ ap is_zero (drop-combination u rows)))
-        ∙ ap (λ n. sum_by g (points x.q n)) same
+        ∙ ap is_zero (drop-combination u rows))))
 
     inside-and-zero : words_in x.q x.m (is_in_base x (base x)) V k + words_in x.q x.m is_zero V k
         ≡ words_in x.q x.m (λ v. in_span x.q x.m (base x) v) V k
@@ -187,14 +187,13 @@ module _ (x : Strata) (f : IsField x.q) (room : x.h ≤ x.m) where
       let there = are-spread more k in
       let one = pushed x.q x.m f rows r k pos low in
       let wide : x.q ^ x.m ≡ x.q ^ (x.m - x.h) * x.q ^ x.h =
-      ap (λ n. x.q ^ n) (let e : x.m ≡ x.m - x.h + x.h = omega (arith, room) in e) ∙ pow-add x.q (x.m - x.h) x.h in
+      ap (λ n. x.q ^ n) (let e : x.m ≡ x.m - x.h + x.h = omega arith in e) ∙ pow-add x.q (x.m - x.h) x.h in
       let under : r / x.q ^ x.h < x.q ^ (x.m - x.h) =
-      (div-lt_iff_lt-mul (one-le-pow x.h x.q some)).1 (subst (λ n. r < n) wide low) in
+      (div-lt_iff_lt-mul (one-le-pow x.h x.q some)).1 (rw wide at low) in
       let two = pushed x.q (x.m - x.h) f (behind_base x rows) (r / x.q ^ x.h) k pos under in
       let behind : sums_behind x more k 0
       ≡ spread x.q (x.m - x.h) (vectors_of x.q (x.m - x.h) (behind_base x rows ++ r / x.q ^ x.h ∷ [])) k 0 =
-      ap (λ l. spread x.q (x.m - x.h) (vectors_of x.q (x.m - x.h) l) k 0)
-      (map-append (λ r. r / x.q ^ x.h) rows (r ∷ [])) in
+      cc (map-append (λ r. r / x.q ^ x.h) rows (r ∷ [])) in
       let a = here.constant in
       let b = there.constant in
       let c = here.in_groups in

@@ -1,5 +1,5 @@
 -- Rows of a stage put in order: its unit vectors, and the others, which fall.
-use Rattle.std.proofs.Common.{ℕ, ◌≡◌, ◌<◌, ◌≤◌, ◌+◌, ◌*◌, ◌^◌, suc, Bool, false, not, eqb, List, [], ◌∷◌, ◌++◌, map}
+use Rattle.std.proofs.Common.{ℕ, ◌≡◌, ◌<◌, ◌≤◌, ◌+◌, ◌^◌, Bool, false, not, eqb, List, [], ◌∷◌, ◌++◌, map}
 use Rattle.std.proofs.Common.{refl, sym, subst, ◌∙◌, ap, arith, inl, inr, ◌⊎◌, eqb-true, eq-eqb}
 use Rattle.std.specs.List.{AllByRecursion, filter, range_with_len}
 use Rattle.std.proofs.Math.Nat.{pow-le-pow_right, pow-suc, one-le-pow, mul-le-mul_left}
@@ -24,7 +24,7 @@ use Rattle.fx_reduction.proofs.Numbers.{back}
 use Rattle.fx_base.proofs.Ranges.{each-range}
 use Rattle.fx_strata.specs.Changes.{falling_order}
 use Rattle.fx_strata.proofs.Lists.{order-falls, order_by_swaps, IsMember, Pulled, pull}
-use Rattle.fx_strata.proofs.Falls.{free-units, free-strict}
+use Rattle.fx_laws.proofs.Falling.{free-units, free-strict}
 use Rattle.fx_strata.proofs.Exchanges.{found_range, units-vectors, units-differ, is-unit, falls-weakly}
 use Rattle.fx_strata.proofs.Exchanges.{reordered-map}
 use Rattle.fx_strata.specs.Canonical.{units, AreLater}
@@ -33,15 +33,15 @@ use Rattle.fx_strata.proofs.Free.{IsFree, word-free, free-back}
 
 module _ (d : Dimensions) (f : IsField d.q) where
   some : 0 < d.q
-  some = omega (arith, f.more_than_one)
+  some = omega arith
 
   pub pow-less : (i j : ℕ) → i < j → d.q ^ i < d.q ^ j
   pow-less i j less =
-      let next : d.q ^ suc i ≤ d.q ^ j = pow-le-pow_right some less in
-      let is : d.q ^ suc i ≡ d.q ^ i * d.q = pow-suc d.q i in
-      let one : 1 ≤ d.q ^ i = one-le-pow i d.q some in
-      let two : 2 ≤ d.q = omega (arith, f.more_than_one) in
-      let twice : d.q ^ i * 2 ≤ d.q ^ i * d.q = mul-le-mul_left (d.q ^ i) two in
+      let next = pow-le-pow_right some less in
+      let is = pow-suc d.q i in
+      let one = one-le-pow i d.q some in
+      let two : 2 ≤ d.q = omega arith in
+      let twice = mul-le-mul_left (d.q ^ i) two in
       omega arith
 
   pub free-reordered : (ks : List ℕ) (vs : List (List ℕ)) → IsFree d.q d.m f vs → IsFree d.q d.m f (reordered ks vs)
@@ -58,17 +58,17 @@ module _ (d : Dimensions) (f : IsField d.q) where
       | inr o ↦ o
       | inl t ↦
           let found = found_range (λ i. eqb r (d.q ^ i)) 0 d.m t in
-          let i : ℕ = found.0 in
-          let small : i < d.m = omega (arith, found.2) in
-          let is : r ≡ d.q ^ i = eqb-true r (d.q ^ i) found.3 in
+          let i = found.0 in
+          let small : i < d.m = omega arith in
+          let is = eqb-true r (d.q ^ i) found.3 in
           absurd (elim (cases_lt i from) [
             | inl less ↦
-                let p : d.q ^ i < d.q ^ from = pow-less i from less in
+                let p = pow-less i from less in
                 omega arith
             | inr past ↦ elim (cases_lt i (from + len)) [
-              | inl inside ↦ none i past inside (sym (ap (digits d.q d.m) is ∙ digits-unit d.q d.m i f small))
+              | inl inside ↦ none i past inside (sym (cc (digits-unit d.q d.m i f small)))
               | inr beyond ↦
-                  let p : d.q ^ (from + len) ≤ d.q ^ i = pow-le-pow_right some beyond in
+                  let p = pow-le-pow_right some beyond in
                   omega arith
             ]
           ])
@@ -92,8 +92,11 @@ module _ (d : Dimensions) (f : IsField d.q) where
     kept-all : (rs : List ℕ) → AllByRecursion (λ r. is_unit d r ≡ false) rs → filter (λ r. not (is_unit d r)) rs ≡ rs
     kept-all [] h = refl
     kept-all (r ∷ rs) h =
-        cond-true (not (is_unit d r)) (r ∷ filter (λ r. not (is_unit d r)) rs) (filter (λ r. not (is_unit d r)) rs)
-        (ap not h.0) ∙ ap (λ z. r ∷ z) (kept-all rs h.1)
+        cc (
+          cond-true (not (is_unit d r)) (r ∷ filter (λ r. not (is_unit d r)) rs) (filter (λ r. not (is_unit d r)) rs)
+              (ap not h.0),
+          kept-all rs h.1,
+        )
 
     is-later : (rs : List ℕ) (bound : ℕ) → AllByRecursion (λ r. InStage r) rs
         → AllByRecursion (λ r. is_unit d r ≡ false) rs
@@ -128,9 +131,9 @@ module _ (d : Dimensions) (f : IsField d.q) where
         | inr is ↦ is
         | inl z ↦
             let none : r ≡ 0 =
-            sym (number-digits d.q d.m r some low.0) ∙ ap (number d.q) z ∙ number-zeros d.q d.m in
-            let one : 1 ≤ d.q ^ from = one-le-pow from d.q some in
-            absurd (omega (arith, h.0.low))
+            cc (number-digits d.q d.m r some low.0, number-zeros d.q d.m) in
+            let one = one-le-pow from d.q some in
+            absurd (omega arith)
       ],
       normals rs h.1 low.1 n.1,
     )
@@ -140,8 +143,8 @@ module _ (d : Dimensions) (f : IsField d.q) where
     belows [] h = (tt, tt)
     belows (r ∷ rs) h =
         let rest = belows rs h.1 in
-        let wide : d.q ^ (from + len) ≤ d.q ^ d.m = pow-le-pow_right some room in
-        ((h.0.high, rest.0), (omega (arith, h.0.high), rest.1))
+        let wide = pow-le-pow_right some room in
+        ((h.0.high, rest.0), (omega arith, rest.1))
 
     -- the numbers of rows of the stage in order
     pub record Sorted (nums : List ℕ) : Type 0 where
@@ -174,11 +177,13 @@ module _ (d : Dimensions) (f : IsField d.q) where
 
       parts : reordered pulled.swaps vs ≡ units_from d.m from len ++ vectors_of d.q d.m pulled.rest
       parts =
-          ap (reordered pulled.swaps) (sym (back d.q d.m f vs hv))
-          ∙ sym (reordered-map (λ n. digits d.q d.m n) pulled.swaps nums)
-          ∙ ap (vectors_of d.q d.m) pulled.is
-          ∙ map-append (λ n. digits d.q d.m n) (units d.q from len) pulled.rest
-          ∙ ap (λ z. z ++ vectors_of d.q d.m pulled.rest) (units-vectors d f from len room)
+          cc (
+            back d.q d.m f vs hv,
+            reordered-map (λ n. digits d.q d.m n) pulled.swaps nums,
+            pulled.is,
+            map-append (λ n. digits d.q d.m n) (units d.q from len) pulled.rest,
+            units-vectors d f from len room,
+          )
 
       parts-free : IsFree d.q d.m f (units_from d.m from len ++ vectors_of d.q d.m pulled.rest)
       parts-free = subst (IsFree d.q d.m f) parts (free-reordered pulled.swaps vs free)
@@ -217,7 +222,7 @@ module _ (d : Dimensions) (f : IsField d.q) where
       others-free =
           let s = order_by_swaps pulled.rest in
           subst (IsFree d.q d.m f)
-          (sym (reordered-map (λ n. digits d.q d.m n) s.0 pulled.rest) ∙ ap (vectors_of d.q d.m) s.1)
+          (cc (reordered-map (λ n. digits d.q d.m n) s.0 pulled.rest, s.1))
           (free-reordered s.0 (vectors_of d.q d.m pulled.rest) rest-free)
 
       others-fall : FallsStrictly d.q (vectors_of d.q d.m others)

@@ -47,10 +47,9 @@ module _ (x : Strata) where
         let long : length done ≡ st.begin + k =
         length-append pre (units x.q st.first_unit k)
         ∙ ap₂ (λ (a b : ℕ). a + b) begins (length-units x.q st.first_unit k) in
-        let here : stage_after x done ≡ st = inside (length done) (omega arith) (omega arith) in
+        let here = inside (length done) (omega arith) (omega arith) in
         let early : has_units x done ≡ false =
-        subst (λ (z : Stage). nat_le (z.begin + z.units) (length done) ≡ false) (sym here)
-        (false_from_ne_true _ (λ t. let e : st.begin + st.units ≤ length done = grind (arith, nat_tests, t) in
+        rw here (false_from_ne_true _ (λ t. let e : st.begin + st.units ≤ length done = grind (arith, nat_tests, t) in
         omega arith)) in
         let is : eqb r (x.q ^ ((stage_after x done).first_unit + (length done - (stage_after x done).begin))) ≡ true =
         sym (cond-false (has_units x done)
@@ -74,12 +73,11 @@ module _ (x : Strata) where
     units-first (suc j) k (r ∷ rows) e long h =
         let done : List ℕ = pre ++ units x.q st.first_unit k in
         let p = and_parts (may_follow x done r) (do_follow x (done ++ r ∷ []) rows) h in
-        let is : r ≡ x.q ^ (st.first_unit + k) = at-unit k r (omega arith) p.0 in
+        let is = at-unit k r (omega arith) p.0 in
         let next : done ++ r ∷ [] ≡ pre ++ units x.q st.first_unit (suc k) =
-        append_assoc pre (units x.q st.first_unit k) (r ∷ [])
-        ∙ ap (λ l. pre ++ l) (ap (λ z. units x.q st.first_unit k ++ z ∷ []) is ∙ units-more x.q st.first_unit k) in
+        cc (append_assoc pre (units x.q st.first_unit k) (r ∷ []), units-more x.q st.first_unit k) in
         let more = units-first j (suc k) rows (omega arith) (omega arith)
-        (subst (λ l. do_follow x l rows ≡ true) next p.1) in (
+        (rw next at p.1) in (
           more.0,
           ap₂ (λ a l. a ∷ l) is
               (more.1 ∙ ap (λ n. units x.q n j ++ more.0)
@@ -95,20 +93,19 @@ module _ (x : Strata) where
         (cond (eqb (length done) (st.begin + st.units)) (x.q ^ (st.first_unit + st.units)) (last_row done)) front
         × (do_follow x (done ++ front) behind ≡ true)
     others-next zero done rows e past long h =
-        ([], rows, refl, refl, tt, subst (λ l. do_follow x l rows ≡ true) (sym (append-nil done)) h)
+        ([], rows, refl, refl, tt, rw (append-nil done) h)
     others-next (suc j) done [] e past long h = absurd (omega arith)
     others-next (suc j) done (r ∷ rows) e past long h =
         let p = and_parts (may_follow x done r) (do_follow x (done ++ r ∷ []) rows) h in
-        let here : stage_after x done ≡ st = inside (length done) (omega arith) (omega arith) in
+        let here = inside (length done) (omega arith) (omega arith) in
         let there : has_units x done ≡ true =
-        subst (λ (z : Stage). nat_le (z.begin + z.units) (length done) ≡ true) (sym here)
-        (grind (arith, nat_tests, past)) in
+        rw here (grind (arith, nat_tests, past)) in
         let low : (is_later d (stage_after x done).first_unit r && nat_lt r (bound x done)) ≡ true =
         sym (cond-true (has_units x done)
         (is_later d (stage_after x done).first_unit r && nat_lt r (bound x done))
         (eqb r (x.q ^ ((stage_after x done).first_unit + (length done - (stage_after x done).begin)))) there) ∙ p.0 in
         let q = and_parts (is_later d (stage_after x done).first_unit r) (nat_lt r (bound x done)) low in
-        let size : length (done ++ r ∷ []) ≡ length done + 1 = length-append done (r ∷ []) in
+        let size = length-append done (r ∷ []) in
         let more = others-next j (done ++ r ∷ []) rows (omega arith) (omega arith) (omega arith) p.1 in
         let last : last_row (done ++ r ∷ []) ≡ r =
         ap (slice_index (done ++ r ∷ [])) (let e' : length (done ++ r ∷ []) - 1 ≡ length done + 0 = omega arith in
@@ -121,15 +118,14 @@ module _ (x : Strata) where
         (last_row (done ++ r ∷ [])) (ne_eqb _ _ other) ∙ last in (
           r ∷ more.0,
           more.1,
-          ap (λ l. r ∷ l) more.2,
+          cc more.2,
           (let e' = more.3 in omega arith),
           (
-            subst (λ (z : Stage). is_later d z.first_unit r ≡ true) here q.0,
-            subst (λ (z : Stage). r < cond (eqb (length done) (z.begin + z.units))
-                (x.q ^ (z.first_unit + z.units)) (last_row done)) here (ltb-true r (bound x done) q.1),
-            subst (λ b. AreLater d st.first_unit b more.0) next more.4,
+            rw here at q.0,
+            rw here at (ltb-true r (bound x done) q.1),
+            rw next at more.4,
           ),
-          subst (λ l. do_follow x l more.1 ≡ true) (append_assoc done (r ∷ []) more.0) more.5,
+          rw (append_assoc done (r ∷ []) more.0) at more.5,
         )
 
     -- so a stage is made
@@ -137,31 +133,30 @@ module _ (x : Strata) where
         → (front : List ℕ) × (behind : List ℕ) × (rows ≡ front ++ behind) × (length front ≡ to - st.begin)
         × IsStage d st.first_unit st.units front × (do_follow x (pre ++ front) behind ≡ true)
     stage-made rows long h =
-        let us : List ℕ = units x.q st.first_unit st.units in
+        let us = units x.q st.first_unit st.units in
         let one = units-first st.units 0 rows (omega arith) (omega arith)
-        (subst (λ l. do_follow x l rows ≡ true) (sym (append-nil pre)) h) in
+        (rw (append-nil pre) h) in
         let one_is : rows ≡ us ++ one.0 =
         one.1 ∙ ap (λ n. units x.q n st.units ++ one.0) (let e : st.first_unit + 0 ≡ st.first_unit = omega arith in e)
         in
-        let lu : length us ≡ st.units = length-units x.q st.first_unit st.units in
+        let lu = length-units x.q st.first_unit st.units in
         let lp : length (pre ++ us) ≡ st.begin + st.units =
         length-append pre us ∙ ap₂ (λ (a b : ℕ). a + b) begins lu in
         let lr : length rows ≡ st.units + length one.0 =
-        ap (λ (l : List ℕ). length l) one_is ∙ length-append us one.0 ∙ ap (λ (n : ℕ). n + length one.0) lu in
+        cc (length-append us one.0) in
         let two = others-next (to - (st.begin + st.units)) (pre ++ us) one.0 (omega arith) (omega arith) (omega arith)
         one.2 in (
           us ++ two.0,
           two.1,
-          one_is ∙ ap (λ l. us ++ l) two.2 ∙ sym (append_assoc us two.0 two.1),
+          cc (two.2, append_assoc us two.0 two.1),
           (let e = length-append us two.0 in let e' = two.3 in omega arith),
           record {
             others = two.0;
             is = refl;
-            later = subst (λ b. AreLater d st.first_unit b two.0)
-                (cond-true (eqb (length (pre ++ us)) (st.begin + st.units)) (x.q ^ (st.first_unit + st.units))
-                (last_row (pre ++ us)) (eq-eqb _ _ lp)) two.4;
+            later = rw (cond-true (eqb (length (pre ++ us)) (st.begin + st.units)) (x.q ^ (st.first_unit + st.units))
+                (last_row (pre ++ us)) (eq-eqb _ _ lp)) at two.4;
           },
-          subst (λ l. do_follow x l two.1 ≡ true) (append_assoc pre us two.0) two.5,
+          rw (append_assoc pre us two.0) at two.5,
         )
 
   -- the stages one after the other
@@ -207,18 +202,21 @@ module _ (x : Strata) where
         → (x.w ≡ 0) ⊎ IsStage d 0 x.h first → IsLaid x rows
     second first behind is lf follow stage =
         let lb : length rows ≡ x.w + length behind =
-        ap (λ (l : List ℕ). length l) is ∙ length-append first behind ∙ ap (λ (n : ℕ). n + length behind) lf in
+        cc (length-append first behind) in
         let made = stage-made two first lf (x.w + x.n)
         (λ k low high. cond-false (nat_lt k x.w) one two (le-ltb k x.w low)) (omega (arith, base, many))
-        behind (omega (arith, len, lb)) follow in
-        let none : made.1 ≡ [] = empty made.1
-        (let e : length behind ≡ length made.0 + length made.1 = ap (λ (l : List ℕ). length l) made.2
-        ∙ length-append made.0 made.1 in let e' = made.3 in omega (arith, len, lb)) in
-        let whole : behind ≡ made.0 = made.2 ∙ ap (λ l. made.0 ++ l) none ∙ append-nil made.0 in
+        behind (omega (arith, len)) follow in
+        let none = empty made.1
+        (let e : length behind
+        ≡ length made.0 + length made.1 = cc (made.2, length-append made.0 made.1) in let e' = made.3 in omega (
+          arith,
+          len,
+        )) in
+        let whole : behind ≡ made.0 = cc (made.2, append-nil made.0) in
         let front : take x.w rows ≡ first =
-        ap (take x.w) is ∙ subst (λ n. take n (first ++ behind) ≡ first) lf (take-append_seam first behind) in
+        cc (subst (λ n. take n (first ++ behind) ≡ first) lf (take-append_seam first behind)) in
         let back : drop x.w rows ≡ behind =
-        ap (drop x.w) is ∙ subst (λ n. drop n (first ++ behind) ≡ behind) lf (drop-append_seam first behind) in
+        cc (subst (λ n. drop n (first ++ behind) ≡ behind) lf (drop-append_seam first behind)) in
         record {
           base = base;
           len = len;
@@ -233,12 +231,12 @@ module _ (x : Strata) where
     laid : IsLaid x rows
     laid = elim (or_cases (eqb x.w 0) (nat_le x.h x.w) p2.1) [
       | inl t ↦
-          let e : x.w ≡ 0 = eqb-true x.w 0 t in
+          let e = eqb-true x.w 0 t in
           second [] rows refl (sym e) h3.0 (inl e)
       | inr t ↦
           let wide : x.h ≤ x.w = grind (arith, nat_tests, t) in
           let made = stage-made one [] refl x.w (λ k low high. cond-true (nat_lt k x.w) one two (lt-ltb k x.w high))
-          (omega (arith, wide)) rows (omega (arith, len)) h3.0 in
+          (omega arith) rows (omega (arith, len)) h3.0 in
           second made.0 made.1 made.2 (let e = made.3 in omega arith) made.5 (inr made.4)
     ]
 

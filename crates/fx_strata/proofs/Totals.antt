@@ -25,7 +25,7 @@ use Rattle.fx_laws.proofs.Scalings.{scaled-length, scaled-combination, times-wei
 
 module _ (q m : ℕ) (f : IsField q) where
   some : 0 < q
-  some = omega (arith, f.more_than_one)
+  some = omega arith
 
   abbrev pub total : (ℕ → List ℕ → ℕ) → List (List ℕ) → ℕ
   total g rows = sum_by (λ u. g (weight u) (combination q m u rows)) (points q (length rows))
@@ -42,8 +42,7 @@ module _ (q m : ℕ) (f : IsField q) where
   total-cons g r rows =
       points-sum q (length rows) (λ u. g (weight u) (combination q m u (r ∷ rows)))
       ∙ sum_by-ext _ _ (codes_of q) (λ c. sum_by-ext _ _ (points q (length rows))
-      (λ u. ap (λ (n : ℕ). g n (plus q (scale q c r) (combination q m u rows)))
-      (sum_by-cons (λ c. cond (nat_lt 0 c) 1 0) c u)))
+      (λ u. cc (sum_by-cons (λ c. cond (nat_lt 0 c) 1 0) c u)))
 
   -- rows of which the sums give the same
   pub total-same : (g h : ℕ → List ℕ → ℕ) (xs ys : List (List ℕ)) → length ys ≡ length xs
@@ -51,11 +50,11 @@ module _ (q m : ℕ) (f : IsField q) where
       → h (weight u) (combination q m u ys) ≡ g (weight u) (combination q m u xs))
       → total h ys ≡ total g xs
   total-same g h xs ys len same =
-      ap (λ n. sum_by (λ u. h (weight u) (combination q m u ys)) (points q n)) len
-      ∙ sum_by-each (λ u. h (weight u) (combination q m u ys)) (λ u. g (weight u) (combination q m u xs))
+      cc (sum_by-each (λ u. h (weight u) (combination q m u ys)) (λ u. g (weight u) (combination q m u xs))
       (points q (length xs))
-      (recursion_from_All _ (points q (length xs)) (all-points q (length xs) some
-      (λ u. h (weight u) (combination q m u ys) ≡ g (weight u) (combination q m u xs)) same))
+      (recursion_from_All _ (points q (length xs))
+      (all-points q (length xs) some (λ u. h (weight u) (combination q m u ys) ≡ g (weight u) (combination q m u xs))
+      same)))
 
   -- a change of the run indexes
   pub total-changed : (g : ℕ → List ℕ → ℕ) (a : List ℕ → List ℕ) → IsChange q m a → (xs : List (List ℕ))
@@ -67,26 +66,25 @@ module _ (q m : ℕ) (f : IsField q) where
   pub total-scaled : (g : ℕ → List ℕ → ℕ) (cs : List ℕ) (xs : List (List ℕ)) → AreScalars q cs → length cs ≡ length xs
       → total g (scaled q cs xs) ≡ total g xs
   total-scaled g cs xs h e =
-      let n : ℕ = length xs in
+      let n = length xs in
       let at : List ℕ → ℕ = λ u. g (weight u) (combination q m u xs) in
       ap (λ k. sum_by (λ u. g (weight u) (combination q m u (scaled q cs xs))) (points q k)) (scaled-length q f cs xs e)
       ∙ sum_by-each (λ u. g (weight u) (combination q m u (scaled q cs xs))) (λ u. at (times q cs u)) (points q n)
       (recursion_from_All _ (points q n) (all-points q n some
       (λ u. g (weight u) (combination q m u (scaled q cs xs)) ≡ at (times q cs u))
-      (λ u hu. ap₂ (λ (j : ℕ) v. g j v) (sym (times-weight q f cs u h (e ∙ sym hu.len) hu.codes))
-      (scaled-combination q f m cs u xs e hu.len))))
+      (λ u hu. cc (times-weight q f cs u h (e ∙ sym hu.len) hu.codes, scaled-combination q f m cs u xs e hu.len))))
       ∙ points-times q f n cs at h e
 
   -- another order
   pub total-swapped : (g : ℕ → List ℕ → ℕ) (k : ℕ) (xs : List (List ℕ)) → total g (swapped k xs) ≡ total g xs
   total-swapped g k xs =
-      let n : ℕ = length xs in
+      let n = length xs in
       let at : List ℕ → ℕ = λ u. g (weight u) (combination q m u xs) in
       ap (λ k'. sum_by (λ u. g (weight u) (combination q m u (swapped k xs))) (points q k')) (length-swapped k xs)
       ∙ sum_by-each (λ u. g (weight u) (combination q m u (swapped k xs))) (λ u. at (swapped k u)) (points q n)
       (recursion_from_All _ (points q n) (all-points q n some
       (λ u. g (weight u) (combination q m u (swapped k xs)) ≡ at (swapped k u))
-      (λ u hu. ap₂ (λ (j : ℕ) v. g j v) (sym (swapped-weight q m f k u)) (swapped-combination q m f k u xs hu.len))))
+      (λ u hu. cc (swapped-weight q m f k u, swapped-combination q m f k u xs hu.len))))
       ∙ points-swapped q m f k n at
 
   pub total-reordered : (g : ℕ → List ℕ → ℕ) (ks : List ℕ) (xs : List (List ℕ)) → total g (reordered ks xs) ≡ total g xs
@@ -99,12 +97,11 @@ module _ (q m : ℕ) (f : IsField q) where
       let r = turned xs ys in
       let b = move_back x ys xs in (
         map (λ k. suc k) r.0 ++ b.0,
-        reordered-append (map (λ k. suc k) r.0) b.0 (x ∷ (xs ++ ys))
-            ∙ ap (reordered b.0) (reordered-inside x r.0 (xs ++ ys) ∙ ap (λ z. x ∷ z) r.1) ∙ b.1,
+        cc (reordered-append (map (λ k. suc k) r.0) b.0 (x ∷ (xs ++ ys)), reordered-inside x r.0 (xs ++ ys), r.1, b.1),
       )
 
   pub total-turned : (g : ℕ → List ℕ → ℕ) (xs ys : List (List ℕ)) → total g (xs ++ ys) ≡ total g (ys ++ xs)
-  total-turned g xs ys = (let t = turned xs ys in sym (total-reordered g t.0 (xs ++ ys)) ∙ ap (total g) t.1)
+  total-turned g xs ys = (let t = turned xs ys in cc (total-reordered g t.0 (xs ++ ys), t.1))
 
   -- lists of which all such sums are the same
   abbrev pub AreAlike : List (List ℕ) → List (List ℕ) → Type 0
@@ -125,7 +122,7 @@ module _ (q m : ℕ) (f : IsField q) where
   -- more rows give no less
   pub codes-split : (h : ℕ → ℕ) → sum_by h (codes_of q) ≡ h 0 + sum_by h (range_with_len 1 (q - 1))
   codes-split h =
-      ap (λ n. sum_by h (range_with_len 0 n)) (let e : q ≡ suc (q - 1) = omega (arith, f.more_than_one) in e)
+      ap (λ n. sum_by h (range_with_len 0 n)) (let e : q ≡ suc (q - 1) = omega arith in e)
       ∙ sum_by-cons h 0 (range_with_len 1 (q - 1))
 
   sum-le : (g h : ℕ → ℕ) (xs : List ℕ) → ((x : ℕ) → g x ≤ h x) → sum_by g xs ≤ sum_by h xs
@@ -142,8 +139,7 @@ module _ (q m : ℕ) (f : IsField q) where
       → total (rest g r 0) rows ≡ total g rows
   none-first g r rows hr h = total-same g (rest g r 0) rows rows refl
       (λ u hu. ap₂ (λ (j : ℕ) v. g j v) (let e : 0 + weight u ≡ weight u = omega arith in e)
-      (ap (λ z. plus q z (combination q m u rows)) (scale-none q m f r hr)
-      ∙ zeros-plus q m f (combination q m u rows) (combination-vector q m f u rows h)))
+      (cc (scale-none q m f r hr, zeros-plus q m f (combination q m u rows) (combination-vector q m f u rows h))))
 
   pub total-grows : (g : ℕ → List ℕ → ℕ) (r : List ℕ) (rows : List (List ℕ)) → IsVector q m r → AreVectors q m rows
       → total g rows ≤ total g (r ∷ rows)
@@ -185,7 +181,7 @@ module _ (q m : ℕ) (f : IsField q) where
       let c = none-first g y rows hy h in
       let at : ℕ → ℕ = λ c. total (rest g y c) rows in
       let d : sum_by at (range_with_len 1 (q - 1)) ≡ at 1 + sum_by at (range_with_len 2 (q - 2)) =
-      ap (λ n. sum_by at (range_with_len 1 n)) (let e : q - 1 ≡ suc (q - 2) = omega (arith, f.more_than_one) in e)
+      ap (λ n. sum_by at (range_with_len 1 n)) (let e : q - 1 ≡ suc (q - 2) = omega arith in e)
       ∙ sum_by-cons at 1 (range_with_len 2 (q - 2)) in
       let e : rest g y 1 0 (zeros m) ≡ g 1 y =
       ap (g 1) (plus-zero q m f (scale q 1 y) (scale-vector q m f 1 y hy) ∙ scale-one q m f y hy) in

@@ -1,7 +1,6 @@
 -- Words of one factor or two that have one sum, and the words of two factors that are not clear.
-use Rattle.std.proofs.Common.{ℕ, ◌≡◌, cond, eqb, ◌&&◌, ◌||◌, List, map, length, refl, sym, ◌∙◌, ap, ap₂, arith}
+use Rattle.std.proofs.Common.{ℕ, ◌≡◌, cond, eqb, ◌&&◌, List, map, length, refl, sym, ◌∙◌, ap, arith}
 use Rattle.std.proofs.Common.{eqb-true, eq-eqb}
-use Rattle.std.specs.Prelude.{nat_lt}
 use Rattle.fx_designs.specs.Galois.{add, mul, neg, IsField, number}
 use Rattle.fx_designs.specs.Vectors.{IsVector, dot, scale, minus, zeros, weight, is_zero, combination}
 use Rattle.fx_designs.specs.Runs.{runs_of, is_constant}
@@ -36,22 +35,24 @@ module _ (q m : ℕ) (f : IsField q) where
         (λ e. ap is_zero (change.zero_alone v hv
         (zeros_from_weight (a v) m (let h = change.vector v hv in h.len) (eqb-true (weight (a v)) 0 e)))
         ∙ eq-eqb (weight (zeros m)) 0 (weight-zeros m))
-        (λ e. ap is_zero (ap a (zeros_from_weight v m hv.len (eqb-true (weight v) 0 e)) ∙ change-zeros q m f a change)
-        ∙ eq-eqb (weight (zeros m)) 0 (weight-zeros m))
+        (λ e. cc (
+          zeros_from_weight v m hv.len (eqb-true (weight v) 0 e),
+          change-zeros q m f a change,
+          eq-eqb (weight (zeros m)) 0 (weight-zeros m),
+        ))
 
     pub same-number : (v w : List ℕ) → IsVector q m v → IsVector q m w
         → eqb (number q (a w)) (number q (a v)) ≡ eqb (number q w) (number q v)
     same-number v w hv hw = bool_same (eqb (number q (a w)) (number q (a v))) (eqb (number q w) (number q v))
         (λ e. eq-eqb _ _ (ap (number q) (change-injective q m f a change w v hw hv
         (number-same q m f (a w) (a v) (change.vector w hw) (change.vector v hv) (eqb-true _ _ e)))))
-        (λ e. eq-eqb _ _ (ap (λ z. number q (a z)) (number-same q m f w v hw hv (eqb-true _ _ e))))
+        (λ e. eq-eqb _ _ (cc (number-same q m f w v hw hv (eqb-true _ _ e))))
 
     pub effects-kept : (v : List ℕ) → IsVector q m v → (zs : List (List ℕ)) → AreVectors q m zs
         → total q m f (λ j s. near (a v) j (a s)) zs ≡ effects_at q m zs v
     effects-kept v hv zs hz =
         total-same q m f (near v) (λ j s. near (a v) j (a s)) zs zs refl
-        (λ u hu. ap (λ b. cond {A = ℕ} (b && is_effect (weight u)) 1 0)
-        (same-number v (combination q m u zs) hv (combination-vector q m f u zs hz)))
+        (λ u hu. cc (same-number v (combination q m u zs) hv (combination-vector q m f u zs hz)))
         ∙ sym (effects-total zs v)
 
     pub effects-changed : (v : List ℕ) → IsVector q m v → (zs : List (List ℕ)) → AreVectors q m zs
@@ -63,30 +64,33 @@ module _ (q m : ℕ) (f : IsField q) where
   difference : (u v p : List ℕ) (rows : List (List ℕ)) → dot q (combination q m (minus q u v) rows) p
       ≡ add q (dot q (combination q m u rows) p) (mul q (neg q 1) (dot q (combination q m v rows) p))
   difference u v p rows =
-      plus-combination q m f u (scale q (neg q 1) v) rows p
-      ∙ ap (add q (dot q (combination q m u rows) p)) (scale-combination q m f (neg q 1) v rows p)
+      cc (plus-combination q m f u (scale q (neg q 1) v) rows p, scale-combination q m f (neg q 1) v rows p)
 
   pub no-difference : (u v : List ℕ) (rows : List (List ℕ)) → AreVectors q m rows
       → is_zero (combination q m (minus q u v) rows)
       ≡ eqb (number q (combination q m v rows)) (number q (combination q m u rows))
   no-difference u v rows hr =
-      let a : List ℕ = combination q m u rows in
-      let b : List ℕ = combination q m v rows in
-      let c : List ℕ = combination q m (minus q u v) rows in
-      let ha : IsVector q m a = combination-vector q m f u rows hr in
-      let hb : IsVector q m b = combination-vector q m f v rows hr in
-      let hc : IsVector q m c = combination-vector q m f (minus q u v) rows hr in
+      let a = combination q m u rows in
+      let b = combination q m v rows in
+      let c = combination q m (minus q u v) rows in
+      let ha = combination-vector q m f u rows hr in
+      let hb = combination-vector q m f v rows hr in
+      let hc = combination-vector q m f (minus q u v) rows hr in
       bool_same (is_zero c) (eqb (number q b) (number q a))
       (λ e. eq-eqb _ _ (ap (number q) (sym (ext q m f a b ha hb (λ p.
       let one : add q (dot q a p) (mul q (neg q 1) (dot q b p)) ≡ 0 =
-      sym (difference u v p rows) ∙ ap (λ z. dot q z p) (zeros_from_weight c m hc.len (eqb-true (weight c) 0 e))
-      ∙ dot-zeros q f m p in
-      sym (add-over q f (dot q b p) (dot q a p) (dot_code q f b p) (dot_code q f a p)) ∙ ap (add q (dot q b p)) one
-      ∙ f.add_zero (dot q b p) (dot_code q f b p))))))
+      cc (difference u v p rows, zeros_from_weight c m hc.len (eqb-true (weight c) 0 e), dot-zeros q f m p) in
+      cc (
+        add-over q f (dot q b p) (dot q a p) (dot_code q f b p) (dot_code q f a p),
+        f.add_zero (dot q b p) (dot_code q f b p),
+      ))))))
       (λ e. ap is_zero (ext q m f c (zeros m) hc (zeros-vector q m f) (λ p.
-      difference u v p rows
-      ∙ ap (λ z. add q (dot q a p) (mul q (neg q 1) (dot q z p))) (number-same q m f b a hb ha (eqb-true _ _ e))
-      ∙ add-negated q f (dot q a p) (dot_code q f a p) ∙ sym (dot-zeros q f m p)))
+      cc (
+        difference u v p rows,
+        number-same q m f b a hb ha (eqb-true _ _ e),
+        add-negated q f (dot q a p) (dot_code q f a p),
+        dot-zeros q f m p,
+      )))
       ∙ eq-eqb (weight (zeros m)) 0 (weight-zeros m))
 
 -- over the runs
@@ -101,21 +105,22 @@ module _ (x : Strata) (f : IsField x.q) (base factors : List (List ℕ)) (hb : A
   pub effects-are : (u : List ℕ) → IsVector x.q (length factors) u
       → effects_of x factors u ≡ effects_at x.q x.m factors (combination x.q x.m u factors)
   unfolding effects_at
-  effects-are u hu = each-point x.q (length factors) (omega (arith, f.more_than_one))
+  effects-are u hu = each-point x.q (length factors) (omega arith)
       (λ v. cond (is_constant x.q (minus x.q u v) (runs_of x.q x.m factors) && is_effect (weight v)) 1 0)
       (λ v. cond (eqb (number x.q (combination x.q x.m v factors)) (number x.q (combination x.q x.m u factors))
       && is_effect (weight v)) 1 0)
-      (λ v hv. ap (λ b. cond {A = ℕ} (b && is_effect (weight v)) 1 0)
-      (over-all x.q x.m f factors base hf hb (minus x.q u v) (minus-vector u v hu hv)
-      ∙ no-difference x.q x.m f u v factors hf))
+      (λ v hv. cc (
+        over-all x.q x.m f factors base hf hb (minus x.q u v) (minus-vector u v hu hv),
+        no-difference x.q x.m f u v factors hf,
+      ))
 
   pub unclear-test : (u : List ℕ) → IsVector x.q (length factors) u
       → is_unclear x base factors u ≡ is_unclear_sum x base factors (combination x.q x.m u factors)
-  unclear-test u hu = ap₂ (λ i n. i || nat_lt 1 n) (in-blocks x.q x.m f factors base hf hb u hu) (effects-are u hu)
+  unclear-test u hu = cc (in-blocks x.q x.m f factors base hf hb u hu, effects-are u hu)
 
   pub unclear-are-sums : unclear_of x base factors ≡ unclear_sums x base factors
   unfolding words_in
-  unclear-are-sums = each-point x.q (length factors) (omega (arith, f.more_than_one))
+  unclear-are-sums = each-point x.q (length factors) (omega arith)
       (λ u. cond (is_unclear x base factors u && eqb (weight u) 2) 1 0)
       (λ u. cond (is_unclear_sum x base factors (combination x.q x.m u factors) && eqb (weight u) 2) 1 0)
-      (λ u hu. ap (λ b. cond {A = ℕ} (b && eqb (weight u) 2) 1 0) (unclear-test u hu))
+      (λ u hu. cc (unclear-test u hu))

@@ -7,8 +7,8 @@ use Rattle.std.proofs.lemmas.Bool.{cases_lt, ne_eqb, lt-ltb, false_from_ne_true,
 use Rattle.std.proofs.lemmas.List.Sums.{sum_by-cons}
 use Rattle.fx_designs.specs.Galois.{IsField, digits, number}
 use Rattle.fx_designs.specs.Answers.{falling}
-use Rattle.fx_laws.proofs.Codes.{number-digits, number-zeros}
-use Rattle.fx_designs.specs.Vectors.{vectors_of, weight, combination, zeros}
+use Rattle.fx_laws.proofs.Codes.{number-digits}
+use Rattle.fx_designs.specs.Vectors.{vectors_of}
 use Rattle.fx_words.specs.Spreads.{spread, so_far}
 use Rattle.fx_words.specs.Tables.{difference}
 use Rattle.fx_words.proofs.Levels.{so_far-more, spread-none}
@@ -18,6 +18,7 @@ use Rattle.fx_strata.specs.Spreads.{sums_at}
 use Rattle.fx_strata.specs.Floors.{new_words}
 use Rattle.fx_strata.proofs.First.{live_by_tallies}
 use Rattle.fx_strata.proofs.Spreads.{new_words_by_spreads}
+use Rattle.fx_words.proofs.Starts.{spread-start}
 
 pub few-same : (n : ℕ) → n < 2 → min 2 n ≡ n
 few-same n low = omega arith
@@ -102,15 +103,6 @@ makes-three x f room rows r top long =
     times c (suc n) pos =
         let more : c * suc n ≡ c * n + c = grind arith in
         lt-ltb 0 (c * suc n) (omega arith) ∙ sym (lt-ltb 0 (suc n) (omega arith))
-
--- the one word over no rows has the sum zero
-spread-start : (q m k x : ℕ) → spread q m [] k x ≡ cond (eqb 0 x && eqb 0 k) 1 0
-unfolding spread
-spread-start q m k x =
-    sum_by-cons (λ u. cond {A = ℕ} (eqb (number q (combination q m u [])) x && eqb (weight u) k) 1 0) [] []
-    ∙ (let e : cond {A = ℕ} (eqb (number q (zeros m)) x && eqb 0 k) 1 0 + 0
-    ≡ cond (eqb (number q (zeros m)) x && eqb 0 k) 1 0 = omega arith in e)
-    ∙ ap (λ (n : ℕ). cond {A = ℕ} (eqb n x && eqb 0 k) 1 0) (number-zeros q m)
 
 pub none-start : (q m x : ℕ) → (x ≡ 0 → ⊥) → 0 ≡ min 2 (spread q m [] 0 x)
 none-start q m x some =

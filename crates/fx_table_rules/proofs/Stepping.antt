@@ -1,17 +1,11 @@
 -- Rows that rules can give, one after the other, and the unit vectors among them.
-use Rattle.std.proofs.Common.{ℕ, ◌≡◌, ◌<◌, ◌≤◌, ◌+◌, ◌*◌, ◌^◌, suc, eqb, List, [], ◌∷◌, ◌++◌, sym, ◌∙◌, ap, arith}
+use Rattle.std.proofs.Common.{ℕ, ◌≡◌, ◌<◌, ◌≤◌, ◌+◌, ◌*◌, ◌^◌, suc, eqb, List, [], ◌∷◌, sym, ◌∙◌, ap, arith}
 use Rattle.std.proofs.Common.{inl, inr, eqb-true}
 use Rattle.std.specs.Prelude.{◌==◌, if◌then◌else◌}
 use Rattle.std.proofs.lemmas.Bool.{cases_Bool, cases_eq, cases_lt, cond-true, cond-false}
 use Rattle.std.proofs.Math.Nat.{pow-le-pow_right, one-le-pow, pow-suc, mul-le-mul_left}
 use Rattle.fx_tree.specs.Introduced.{introduced}
-use Rattle.fx_rules.specs.Stepped.{IsStepped}
 use Rattle.fx_strata.proofs.Lists.{IsMember}
-
-pub stepped_snoc : (q k : ℕ) (rows : List ℕ) (row : ℕ) → IsStepped q k rows → row ≤ q ^ introduced q k rows
-    → IsStepped q k (rows ++ row ∷ [])
-stepped_snoc q k [] row h low = (low, tt)
-stepped_snoc q k (r ∷ rows) row h low = (h.0, stepped_snoc q (if r == q ^ k then k + 1 else k) rows row h.1 low)
 
 -- the unit vector after a row
 pub next_unit : (q k row next : ℕ) → next ≡ q ^ k

@@ -12,7 +12,7 @@ use Rattle.std.proofs.lemmas.Slice.Eq.{bytes_eq-Decides}
 use Rattle.fx_base.proofs.Lists.{each-append}
 use Rattle.fx_text.specs.Names.{is_same_name, place_of}
 
-same_turned : (a b : List ℕ) → is_same_name a b ≡ is_same_name b a
+pub same_turned : (a b : List ℕ) → is_same_name a b ≡ is_same_name b a
 same_turned a b =
     let d = bytes_eq-Decides (map to_ascii_lowercase b) (map to_ascii_lowercase a) in
     one_answer _ _ (bytes_eq-Decides (map to_ascii_lowercase a) (map to_ascii_lowercase b))

@@ -1,6 +1,6 @@
 -- The best of the lots before some rows, and of a job, where a least pattern is asked.
 use Rattle.std.proofs.Common.{◌≡◌, ℕ, zero, suc, ◌<◌, ◌≤◌, ◌+◌, Bool, true, false, not, ◌&&◌, eqb, ltb, List, [], ◌∷◌}
-use Rattle.std.proofs.Common.{length, take, Option, Some, None, refl, sym, subst, ap, ap₂, ◌∙◌, inl, inr, arith, ⊎_elim}
+use Rattle.std.proofs.Common.{length, take, Option, Some, None, refl, sym, subst, ap, inl, inr, arith, ⊎_elim}
 use Rattle.std.proofs.lemmas.Bool.{cond-true, cond-false, cases_Bool, and_parts, and_from, and_left, or_left, or_right}
 use Rattle.std.proofs.lemmas.Bool.{or_cases, false_from_ne_true, eqb-true, lt-ltb, le-leb, lt-leb, cases_lt}
 use Rattle.std.proofs.lemmas.List.{take_all}
@@ -43,11 +43,13 @@ module _ (p : Problem) (f : IsField p.dimensions.q) (some : 0 < p.dimensions.s +
       → counts_for x d c ≡ is_of_earlier_lot p.dimensions c d
   counts-short c d short long =
       let lot : take (m + 1) c ≡ c = take_all (m + 1) c (omega arith) in
-      ap (λ b. before d c && not b) (and_left _ _ (lt-leb (m + 1 + 1) (length c) (omega arith)))
-      ∙ unit (before d c)
-      ∙ sym (before-front (m + 1) d c short long)
-      ∙ ap (before (take (m + 1) d)) (sym lot)
-      ∙ sym (ap (λ b. b && before (lot_of p.dimensions d) (lot_of p.dimensions c)) (lt-ltb m (length d) (omega arith)))
+      cc (
+        and_left _ _ (lt-leb (m + 1 + 1) (length c) (omega arith)),
+        unit (before d c),
+        before-front (m + 1) d c short long,
+        lot,
+        lt-ltb m (length d) (omega arith),
+      )
     where
       unit : (a : Bool) → (a && true) ≡ a
       unit true = refl
@@ -58,12 +60,14 @@ module _ (p : Problem) (f : IsField p.dimensions.q) (some : 0 < p.dimensions.s +
   counts-job c d job long =
       let own : take (m + 1 + 1) c ≡ c = take_all (m + 1 + 1) c (omega arith) in
       let e : same (take (m + 1 + 1) d) (take (m + 1 + 1) c) ≡ extends d c =
-      ap (same (take (m + 1 + 1) d)) own ∙ front-extends (m + 1 + 1) d c (omega arith) in
-      ap₂ (λ a b. before d c && not (a && (same (take (m + 1) d) (take (m + 1) c) && not b)))
-      (le-leb (m + 1 + 1) (length c) (omega arith)) e
-      ∙ drop (extends d c) refl
-      ∙ front-before (m + 1) d c (omega arith) (omega arith)
-      ∙ sym (ap (λ b. b && before (lot_of p.dimensions d) (lot_of p.dimensions c)) (lt-ltb m (length d) (omega arith)))
+      cc (own, front-extends (m + 1 + 1) d c (omega arith)) in
+      cc (
+        le-leb (m + 1 + 1) (length c) (omega arith),
+        e,
+        drop (extends d c) refl,
+        front-before (m + 1) d c (omega arith) (omega arith),
+        lt-ltb m (length d) (omega arith),
+      )
     where
       table : (a s : Bool) → (a && not (true && (s && not false))) ≡ (a && not s)
       table true true = refl
@@ -73,7 +77,7 @@ module _ (p : Problem) (f : IsField p.dimensions.q) (some : 0 < p.dimensions.s +
       drop : (b : Bool) → extends d c ≡ b
           → (before d c && not (true && (same (take (m + 1) d) (take (m + 1) c) && not b)))
           ≡ (before d c && not (same (take (m + 1) d) (take (m + 1) c)))
-      drop true h = let late = extends-not_before d c h in and_left _ _ late ∙ sym (and_left _ _ late)
+      drop true h = let late = extends-not_before d c h in cc (and_left _ _ late)
       drop false h = table (before d c) (same (take (m + 1) d) (take (m + 1) c))
 
   -- what counts for a job, a lot or a shorter prefix are the designs of earlier lots
@@ -82,7 +86,7 @@ module _ (p : Problem) (f : IsField p.dimensions.q) (some : 0 < p.dimensions.s +
       → is_counted x c d ≡ (is_tree_design (tree_of p) d && is_of_earlier_lot p.dimensions c d)
   earlier-seen c short room fits d =
       elim (cases_Bool (is_tree_design (tree_of p) d)) [
-        | inr out ↦ and_left _ _ out ∙ sym (and_left _ _ out)
+        | inr out ↦ cc (and_left _ _ out)
         | inl h ↦ let len = whole d h in
             ap (λ b. is_tree_design (tree_of p) d && b) (elim (cases_lt (m + 1) (length c)) [
               | inl deep ↦ counts-job c d (omega arith) (omega arith)
@@ -123,12 +127,12 @@ module _ (p : Problem) (f : IsField p.dimensions.q) (some : 0 < p.dimensions.s +
     from-best : (o : Option (List ℕ)) → IsFirstLeast x from o → best_of p (is_of_job p.dimensions j) ≡ o
     from-best o k = best-is p f some least (is_of_job p.dimensions j) o
         (same_tests x from (λ d. is_tree_design (tree_of p) d && is_of_job p.dimensions j d)
-        (λ d. ap (λ b. is_tree_design (tree_of p) d && b) (sym (front-extends (m + 2) d j job))) o k)
+        (λ d. cc (front-extends (m + 2) d j job)) o k)
 
     from-least : IsFirstLeast x from (best_of p (is_of_job p.dimensions j))
     from-least =
         same_tests x (λ d. is_tree_design (tree_of p) d && is_of_job p.dimensions j d) from
-        (λ d. ap (λ b. is_tree_design (tree_of p) d && b) (front-extends (m + 2) d j job)) _
+        (λ d. cc (front-extends (m + 2) d j job)) _
         (best-least p f some least (is_of_job p.dimensions j))
 
     -- nothing of the job is better
@@ -142,7 +146,7 @@ module _ (p : Problem) (f : IsField p.dimensions.q) (some : 0 < p.dimensions.s +
         go None e = ap (improvement p.dimensions (best_before p j)) e
         go (Some c) e =
             let own : from c ≡ true = (subst (IsFirstLeast x from) e from-least).0 in
-            ap (improvement p.dimensions (best_before p j)) e ∙ cond-false _ _ _ (none c own (best_before p j) refl)
+            cc (e, cond-false _ _ _ (none c own (best_before p j) refl))
 
     pub told-none : now ≡ None → best_inside p j ≡ None
     told-none e =
@@ -176,8 +180,7 @@ module _ (p : Problem) (f : IsField p.dimensions.q) (some : 0 < p.dimensions.s +
         (or_cases (is_counted x j b) (from b) k.0) in
         let mine : IsFirstLeast x from (Some b) =
         (and_from _ _ design own, λ d z. k.1 d (or_right _ _ z), λ d z first. k.2 d (or_right _ _ z) first) in
-        ap (improvement p.dimensions (best_before p j)) (from-best (Some b) mine) ∙ cond-true _ _ _
-        (go k (best_before p j) refl)
+        cc (from-best (Some b) mine, cond-true _ _ _ (go k (best_before p j) refl))
       where
         go : IsFirstLeast x (is_counted_through x j) (Some b) → (s : Option (List ℕ)) → start ≡ s
             → improves p.dimensions s b ≡ true
@@ -187,7 +190,7 @@ module _ (p : Problem) (f : IsField p.dimensions.q) (some : 0 < p.dimensions.s +
             let first =
             (and_parts (before s j) _ (and_parts (is_tree_design (tree_of p) s) (counts_for x s j) best.0).1).0 in
             let z = split_of b j own in
-            k.2 s (or_left _ _ best.0) (subst (λ l. before s l ≡ true) (sym z.1) (before-longer s j z.0 first))
+            k.2 s (or_left _ _ best.0) (rw z.1 (before-longer s j z.0 first))
 
 -- the lots before a prefix are those before its lot
 pub before-lot : (p : Problem) (rows lot : List ℕ) → take (p.dimensions.m + 1) rows ≡ lot
@@ -195,10 +198,10 @@ pub before-lot : (p : Problem) (rows lot : List ℕ) → take (p.dimensions.m + 
 unfolding best_before
 before-lot p rows lot e =
     let twice : lot_of p.dimensions rows ≡ lot_of p.dimensions lot =
-    sym (again (p.dimensions.m + 1) rows) ∙ ap (take (p.dimensions.m + 1)) e in
+    cc (again (p.dimensions.m + 1) rows, e) in
     ap (λ l. best_of p (λ matrix. ltb p.dimensions.m (length matrix) && before (lot_of p.dimensions matrix) l)) twice
   where
     again : (k : ℕ) (rows : List ℕ) → take k (take k rows) ≡ take k rows
     again zero rows = refl
     again (suc k) [] = refl
-    again (suc k) (a ∷ rows) = ap (λ l. a ∷ l) (again k rows)
+    again (suc k) (a ∷ rows) = cc (again k rows)

@@ -1,6 +1,6 @@
 -- Branches, and the best so far.
 use Rattle.std.proofs.Common.{◌≡◌, ℕ, ◌+◌, ◌<◌, ◌≤◌, Bool, true, false, not, ◌&&◌, ◌||◌, eqb, ltb, leb, List, [], ◌∷◌}
-use Rattle.std.proofs.Common.{◌++◌, length, take, get_or, Option, Some, None, refl, sym, ap, ap₂, ◌∙◌, ◌⊎◌, inl, inr}
+use Rattle.std.proofs.Common.{◌++◌, length, take, get_or, Option, Some, None, refl, sym, ap, ◌∙◌, ◌⊎◌, inl, inr}
 use Rattle.std.proofs.Common.{arith, subst, lt-ltb, ltb-true, eqb-true, append_assoc, append-nil, length-append}
 use Rattle.std.proofs.Common.{take_all}
 use Rattle.std.specs.List.{list_any, AllByRecursion}
@@ -33,7 +33,7 @@ module _ (x : Ranked) (law : IsRanked x) where
   rows_below c [] h = tt
   rows_below c (r ∷ s) h =
       let w : x.tree.canonical ((c ++ r ∷ []) ++ s) ≡ true =
-      subst (λ l. x.tree.canonical l ≡ true) (sym (append_assoc c (r ∷ []) s)) h in (
+      rw (append_assoc c (r ∷ []) s) h in (
         law.ranged c r (closed-append x.tree.canonical law.tree.canonical (c ++ r ∷ []) s w),
         rows_below (c ++ r ∷ []) s
             w,
@@ -104,10 +104,13 @@ module _ (x : Ranked) (law : IsRanked x) where
       at_lot e b k = elim (cases_Bool (leb (x.lot + 1) (length p))) [
         | inl f ↦
             let low = leb-true (x.lot + 1) (length p) f in
-            ap not (ap₂ (λ u v. u && v) (e ∙ sym f)
-            (ap₂ (λ u v. same (take x.lot d) u && not (same (take (x.lot + 1) d) v))
-            (take-append-le x.lot p (r ∷ []) (omega arith))
-            (take-append-le (x.lot + 1) p (r ∷ []) (omega arith)))) ∙ k
+            cc (
+              e,
+              f,
+              take-append-le x.lot p (r ∷ []) (omega arith),
+              take-append-le (x.lot + 1) p (r ∷ []) (omega arith),
+              k,
+            )
         | inr f ↦
             let high = leb-false (x.lot + 1) (length p) f in
             let low = leb-true (x.lot + 1) (length (p ++ r ∷ [])) e in
@@ -117,7 +120,7 @@ module _ (x : Ranked) (law : IsRanked x) where
             let out : same (take x.lot d) (take x.lot (p ++ r ∷ [])) ≡ false =
             false_from_ne_true (same (take x.lot d) (take x.lot (p ++ r ∷ [])))
             (λ z. clash (before d p) b
-            (extends-not_before d p (take-same x.lot d p (subst (λ l. same (take x.lot d) l ≡ true) whole z))))
+            (extends-not_before d p (take-same x.lot d p (rw whole at z))))
             in
             not_from_false _ (and_right _ _ (and_left _ _ out))
       ]
@@ -153,7 +156,7 @@ module _ (x : Ranked) (law : IsRanked x) where
     later d e k m =
         let first = (and_parts (before d c) _ (and_parts (is_tree_design x.tree d) (counts_for x d c) k).1).0 in
         let s = split_of e c (and_parts (is_tree_design x.tree e) (extends e c) m).1 in
-        subst (λ l. before d l ≡ true) (sym s.1) (before-longer d c s.0 first)
+        rw s.1 (before-longer d c s.0 first)
 
     join : (own : Option (List ℕ)) → IsPartBest x (from c) now own
         → IsFirstLeast x (is_counted_through x c) (better x now own)
@@ -172,7 +175,7 @@ module _ (x : Ranked) (law : IsRanked x) where
         let a = (and_parts (x.tree.canonical d) (x.tree.allowed d)
         (and_parts (eqb (length d) x.tree.size) (x.tree.canonical d && x.tree.allowed d) own.0).1).1 in
         clash (x.tree.allowed c)
-        (closed-append x.tree.allowed law.tree.allowed c s.0 (subst (λ l. x.tree.allowed l ≡ true) s.1 a)) out in
+        (closed-append x.tree.allowed law.tree.allowed c s.0 (rw s.1 at a)) out in
         join None (not_less now (λ b e d m. absurd (none d m)) (λ e. none))
 
     pub beaten_best : Loses x c now → IsFirstLeast x (is_counted_through x c) now
@@ -183,7 +186,7 @@ module _ (x : Ranked) (law : IsRanked x) where
             let s = split_of d c (and_parts (is_tree_design x.tree d) (extends d c) m).1 in
             let lose : x.less c b ≡ false = subst (Loses x c) e w in
             false_from_ne_true (x.less d b)
-            (λ z. clash (x.less (c ++ s.0) c) (law.apart (c ++ s.0) b c (subst (λ l. x.less l b ≡ true) s.1 z) lose)
+            (λ z. clash (x.less (c ++ s.0) c) (law.apart (c ++ s.0) b c (rw s.1 at z) lose)
             (law.longer c s.0))
 
     pub better_best : is_tree_design x.tree c ≡ true → Wins x c now → IsFirstLeast x (is_counted_through x c) (Some c)
@@ -207,10 +210,9 @@ module _ (x : Ranked) (law : IsRanked x) where
 
         least : IsFirstLeast x (from c) (Some c)
         least = (
-          and_from _ _ design (ap (λ l. extends l c) (sym (append-nil c)) ∙ extends-append c []),
-          λ d m. subst (λ l. x.less l c ≡ false) (sym (self d m))
-              (false_from_ne_true (x.less c c) (λ z. clash (x.less c c) z (law.not_both c c z))),
-          λ d m first. clash (before c c) (subst (λ l. before l c ≡ true) (self d m) first) (before-self c),
+          and_from _ _ design (cc (append-nil c, extends-append c [])),
+          λ d m. rw (self d m) (false_from_ne_true (x.less c c) (λ z. clash (x.less c c) z (law.not_both c c z))),
+          λ d m first. clash (before c c) (rw (self d m) at first) (before-self c),
         )
 
         own : (o : Option (List ℕ)) → Wins x c o → IsPartBest x (from c) o (Some c)
@@ -242,7 +244,7 @@ module _ (x : Ranked) (law : IsRanked x) where
         → IsFirstLeast x (is_counted_through x p) o
     end_best i o past h =
         same_tests x (so_far (take i kids)) (is_counted_through x p)
-        (λ d. ap (λ rs. so_far rs d) (take_all i kids past) ∙ sym (all_children x law p part d)) o h
+        (λ d. cc (take_all i kids past, all_children x law p part d)) o h
 
     module _ (away : (x.lot < length p) ⊎ (length p < x.lot)) (i : ℕ) (low : i < length kids) where
       -- which designs count for a child, where the prefix is no lot

@@ -25,8 +25,8 @@ pub all-kept : (C g : List ℕ → Bool) (xs : List (List ℕ)) → ((y : List �
     → list_all g (filter C xs) ≡ true
 all-kept C g [] h = refl
 all-kept C g (x ∷ xs) h = elim (cases_Bool (C x)) [
-  | inl a ↦ ap (list_all g) (cond-true (C x) (x ∷ filter C xs) _ a) ∙ and_from _ _ (h x a) (all-kept C g xs h)
-  | inr a ↦ ap (list_all g) (cond-false (C x) (x ∷ filter C xs) _ a) ∙ all-kept C g xs h
+  | inl a ↦ cc (cond-true (C x) (x ∷ filter C xs) _ a, and_from _ _ (h x a) (all-kept C g xs h))
+  | inr a ↦ cc (cond-false (C x) (x ∷ filter C xs) _ a, all-kept C g xs h)
 ]
 
 pub all-at : (C g : List ℕ → Bool) (xs : List (List ℕ)) (b : List ℕ) → Has b xs → C b ≡ true
@@ -35,12 +35,12 @@ all-at C g [] b there own h = absurd there
 all-at C g (x ∷ xs) b there own h = elim (cases_Bool (C x)) [
   | inl a ↦
       let parts =
-      and_parts (g x) (list_all g (filter C xs)) (sym (ap (list_all g) (cond-true (C x) (x ∷ filter C xs) _ a)) ∙ h)
+      and_parts (g x) (list_all g (filter C xs)) (cc (cond-true (C x) (x ∷ filter C xs) _ a, h))
       in
-      elim there [ inl e ↦ subst (λ z. g z ≡ true) (sym e) parts.0 | inr k ↦ all-at C g xs b k own parts.1 ]
+      elim there [ inl e ↦ rw e parts.0 | inr k ↦ all-at C g xs b k own parts.1 ]
   | inr a ↦
       let rest = sym (ap (list_all g) (cond-false (C x) (x ∷ filter C xs) _ a)) ∙ h in
-      elim there [ inl e ↦ clash (C x) (sym (ap C e) ∙ own) a | inr k ↦ all-at C g xs b k own rest ]
+      elim there [ inl e ↦ clash (C x) (cc (e, own)) a | inr k ↦ all-at C g xs b k own rest ]
 ]
 
 -- among the items of a list, the first of least pattern
@@ -58,9 +58,9 @@ module _ (x : Ranked) (law : IsRanked x) (D : List ℕ → Bool) where
       → ((d : List ℕ) → Has d ys → D d ≡ true → x.less d y ≡ false) → FirstIn (y ∷ ys) (Some y)
   alone y ys late own h = (
     own,
-    λ d there e. elim there [ inl is ↦ subst (λ z. x.less z y ≡ false) (sym is) (self-less y) | inr k ↦ h d k e ],
+    λ d there e. elim there [ inl is ↦ rw is (self-less y) | inr k ↦ h d k e ],
     λ d there e first. elim there [
-      | inl is ↦ clash (before y y) (subst (λ z. before z y ≡ true) is first) (before-self y)
+      | inl is ↦ clash (before y y) (rw is at first) (before-self y)
       | inr k ↦ clash (before d y) first (before-not y d (has-each (λ z. before y z ≡ true) d ys late k))
     ],
   )
@@ -76,12 +76,12 @@ module _ (x : Ranked) (law : IsRanked x) (D : List ℕ → Bool) where
     where
       skip : (o : Option (List ℕ)) → D y ≡ false → FirstIn ys o → FirstIn (y ∷ ys) o
       skip None out k =
-          λ d there e. elim there [ inl is ↦ clash (D d) e (subst (λ z. D z ≡ false) (sym is) out) | inr t ↦ k d t e ]
+          λ d there e. elim there [ inl is ↦ clash (D d) e (rw is out) | inr t ↦ k d t e ]
       skip (Some b) out k = (
         k.0,
-        λ d there e. elim there [ inl is ↦ clash (D d) e (subst (λ z. D z ≡ false) (sym is) out) | inr t ↦ k.1 d t e ],
+        λ d there e. elim there [ inl is ↦ clash (D d) e (rw is out) | inr t ↦ k.1 d t e ],
         λ d there e first. elim there
-            [ inl is ↦ clash (D d) e (subst (λ z. D z ≡ false) (sym is) out) | inr t ↦ k.2 d t e first ],
+            [ inl is ↦ clash (D d) e (rw is out) | inr t ↦ k.2 d t e first ],
       )
 
       more : (o : Option (List ℕ)) → D y ≡ true → FirstIn ys o → (o : Option (List ℕ)) × FirstIn (y ∷ ys) o
@@ -92,9 +92,9 @@ module _ (x : Ranked) (law : IsRanked x) (D : List ℕ → Bool) where
           (
             k.0,
             λ d there e. elim there
-                [ inl is ↦ subst (λ z. x.less z b ≡ false) (sym is) (law.not_both b y low) | inr t ↦ k.1 d t e ],
+                [ inl is ↦ rw is (law.not_both b y low) | inr t ↦ k.1 d t e ],
             λ d there e first. elim there
-                [ inl is ↦ subst (λ z. x.less b z ≡ true) (sym is) low | inr t ↦ k.2 d t e first ],
+                [ inl is ↦ rw is low | inr t ↦ k.2 d t e first ],
           ),
         )
         | inr high ↦ (
@@ -165,7 +165,7 @@ module _ (p : Problem) (f : IsField p.dimensions.q) (some : 0 < p.dimensions.s +
     unfolding answer designs
     answer-least o h =
         find_agree (λ rows. not p.least || is_of_least_pattern p rows) (is_of_least_pattern p)
-        (λ rows. ap (λ b. not b || is_of_least_pattern p rows) least) (designs p)
+        (λ rows. cc least) (designs p)
         ∙ first_is (is_design p) (prefixes p) (lists-sorted _ _)
         (λ d e. design-in x law d (sym (design-same p f d) ∙ e) some) o
         (same_tests x (is_tree_design (tree_of p)) (is_design p) (λ d. sym (design-same p f d)) o h)

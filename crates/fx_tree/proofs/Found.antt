@@ -1,6 +1,6 @@
 -- What is found at a prefix with its last row, and what is then the best so far.
-use Rattle.std.proofs.Common.{◌≡◌, ℕ, ◌<◌, ◌+◌, true, false, ltb, List, [], ◌∷◌, ◌++◌, length, Option, Some, None, ap}
-use Rattle.std.proofs.Common.{◌∙◌, inl, inr, arith, length-append, slice_index, ◌-◌}
+use Rattle.std.proofs.Common.{◌≡◌, ℕ, ◌<◌, ◌+◌, true, false, ltb, List, [], ◌∷◌, ◌++◌, length, Option, Some, None}
+use Rattle.std.proofs.Common.{◌∙◌, inl, inr, arith, length-append, ◌-◌}
 use Rattle.std.proofs.lemmas.Bool.{cond-true, cond-false, cases_Bool, and_parts, and_from, and_left, and_right, eq-eqb}
 use Rattle.std.proofs.lemmas.Bool.{le-ltb, lt-ltb, not-true, not-false, and_cases}
 use Rattle.fx_designs.specs.Galois.{IsField}
@@ -20,7 +20,7 @@ use Rattle.fx_tree.proofs.SearchTree.{opens-least, opens-plain, mark-least, mark
 pub last-row : (p : List ℕ) (r : ℕ) → last_row (p ++ r ∷ []) ≡ r
 last-row p r =
     let e : length (p ++ r ∷ []) - 1 ≡ length p = omega (arith, length-append p (r ∷ [])) in
-    ap (slice_index (p ++ r ∷ [])) e ∙ last_is p r
+    cc (e, last_is p r)
 
 -- nothing below it is walked, and this is its mark
 pub record IsShut (p : Problem) (c : List ℕ) (found : Mark) : Type 0 where
@@ -44,13 +44,11 @@ module _ (p : Problem) (f : IsField p.dimensions.q) (q : List ℕ) (r : ℕ) whe
   barred-shut out = elim (cases_Bool p.least) [
     | inl e ↦ record {
       shut = opens-least p e c ∙ and_left _ _ out;
-      mark = mark-least p e c ∙ cond-false (is_allowed p.dimensions p.requirement c) _ _ out ∙ ap
-          (λ n. Word n (word_of p c)) (last-row q r);
+      mark = cc (mark-least p e c, cond-false (is_allowed p.dimensions p.requirement c) _ _ out, last-row q r);
     }
     | inr e ↦ record {
       shut = opens-plain p e c ∙ out;
-      mark = mark-plain p e c ∙ cond-false (is_allowed p.dimensions p.requirement c) _ _ out ∙ ap
-          (λ n. Word n (word_of p c)) (last-row q r);
+      mark = cc (mark-plain p e c, cond-false (is_allowed p.dimensions p.requirement c) _ _ out, last-row q r);
     }
   ]
 
@@ -61,8 +59,12 @@ module _ (p : Problem) (f : IsField p.dimensions.q) (q : List ℕ) (r : ℕ) whe
   worse-mark : p.least ≡ true → is_allowed p.dimensions p.requirement c ≡ true → is_branch p c ≡ false
       → search_mark p c ≡ Worse r
   worse-mark e allowed out =
-      mark-least p e c ∙ cond-true (is_allowed p.dimensions p.requirement c) _ _ allowed ∙ cond-false (is_branch p c) _
-      _ out ∙ ap Worse (last-row q r)
+      cc (
+        mark-least p e c,
+        cond-true (is_allowed p.dimensions p.requirement c) _ _ allowed,
+        cond-false (is_branch p c) _ _ out,
+        last-row q r,
+      )
 
   loses : (o : Option (List ℕ)) → is_beaten p o c ≡ true → (p.least ≡ true) × Loses x c o
   loses None h = absurd (cc h)
@@ -94,13 +96,21 @@ module _ (p : Problem) (f : IsField p.dimensions.q) (q : List ℕ) (r : ℕ) whe
         branch-ranked p e c ∙ wins_branch x (is-ranked p f) c o (h.first e) allowed part (wins o e unbeaten) in
         record {
           is_expanded = opens-least p e c ∙ branch;
-          mark = mark-least p e c ∙ cond-true (is_allowed p.dimensions p.requirement c) _ _ allowed ∙ cond-true
-              (is_branch p c) _ _ branch ∙ ap Branch (last-row q r);
+          mark = cc (
+            mark-least p e c,
+            cond-true (is_allowed p.dimensions p.requirement c) _ _ allowed,
+            cond-true (is_branch p c) _ _ branch,
+            last-row q r,
+          );
         }
     | inr e ↦ record {
       is_expanded = opens-plain p e c ∙ allowed;
-      mark = mark-plain p e c ∙ cond-true (is_allowed p.dimensions p.requirement c) _ _ allowed ∙ cond-true
-          (ltb (length c) (p.dimensions.s + p.dimensions.t)) _ _ (lt-ltb _ _ part) ∙ ap Branch (last-row q r);
+      mark = cc (
+        mark-plain p e c,
+        cond-true (is_allowed p.dimensions p.requirement c) _ _ allowed,
+        cond-true (ltb (length c) (p.dimensions.s + p.dimensions.t)) _ _ (lt-ltb _ _ part),
+        last-row q r,
+      );
     }
   ]
 
@@ -126,6 +136,10 @@ module _ (p : Problem) (f : IsField p.dimensions.q) (q : List ℕ) (r : ℕ) whe
     pub first-design : p.least ≡ false → (is_tree_design (search_tree p) c ≡ true) × (search_mark p c ≡ Worse r)
     first-design e = (
       design-plain p e c ∙ design,
-      mark-plain p e c ∙ cond-true (is_allowed p.dimensions p.requirement c) _ _ allowed ∙ cond-false
-          (ltb (length c) (p.dimensions.s + p.dimensions.t)) _ _ (le-ltb _ _ (omega arith)) ∙ ap Worse (last-row q r),
+      cc (
+        mark-plain p e c,
+        cond-true (is_allowed p.dimensions p.requirement c) _ _ allowed,
+        cond-false (ltb (length c) (p.dimensions.s + p.dimensions.t)) _ _ (le-ltb _ _ (omega arith)),
+        last-row q r,
+      ),
     )

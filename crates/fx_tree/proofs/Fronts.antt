@@ -1,6 +1,6 @@
 -- The first rows of lists, and where the lists stand.
 use Rattle.std.proofs.Common.{◌≡◌, ℕ, zero, suc, ◌≤◌, Bool, true, false, not, ◌&&◌, ◌||◌, eqb, ltb, List, [], ◌∷◌}
-use Rattle.std.proofs.Common.{length, take, refl, ap, inl, inr, arith}
+use Rattle.std.proofs.Common.{length, take, refl, inl, inr, arith}
 use Rattle.std.specs.List.{list_all}
 use Rattle.std.proofs.lemmas.Bool.{cases_Bool, and_parts, and_right, eqb-true, ltb-true, le-ltb}
 use Rattle.fx_designs.specs.Vectors.{same}
@@ -14,7 +14,7 @@ front-extends zero rows [] e = refl
 front-extends zero rows (b ∷ j) e = absurd (omega arith)
 front-extends (suc k) rows [] e = absurd (omega arith)
 front-extends (suc k) [] (b ∷ j) e = refl
-front-extends (suc k) (a ∷ rows) (b ∷ j) e = ap (λ z. eqb a b && z) (front-extends k rows j (omega arith))
+front-extends (suc k) (a ∷ rows) (b ∷ j) e = cc (front-extends k rows j (omega arith))
 
 -- a list precedes another by their first k rows, or has the same ones
 pub front-before : (k : ℕ) (d q : List ℕ) → k ≤ length d → k ≤ length q
@@ -41,7 +41,7 @@ before-front k d [] h g = refl
 before-front zero d (b ∷ q) h g = absurd (omega arith)
 before-front (suc k) [] (b ∷ q) h g = absurd (omega arith)
 before-front (suc k) (a ∷ d) (b ∷ q) h g =
-    ap (λ z. ltb b a || (eqb a b && z)) (before-front k d q (omega arith) (omega arith))
+    cc (before-front k d q (omega arith) (omega arith))
 
 pub ranged-all : (b : ℕ) (rows : List ℕ) → list_all (λ r. ltb r b) rows ≡ true → Ranged b rows
 ranged-all b [] h = tt

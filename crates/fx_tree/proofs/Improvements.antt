@@ -1,5 +1,5 @@
 -- The best of a lot, from what its jobs tell.
-use Rattle.std.proofs.Common.{◌≡◌, ℕ, ◌<◌, ◌+◌, Bool, true, ◌&&◌, List, length, Option, Some, None, sym, subst, ap, inl}
+use Rattle.std.proofs.Common.{◌≡◌, ℕ, ◌<◌, ◌+◌, Bool, true, ◌&&◌, List, length, Option, Some, None, sym, subst, inl}
 use Rattle.std.proofs.Common.{inr}
 use Rattle.std.proofs.lemmas.Bool.{cases_Bool, cond-true, cond-false, false_from_ne_true}
 use Rattle.fx_designs.specs.Galois.{IsField}
@@ -26,7 +26,7 @@ module _ (p : Problem) (f : IsField p.dimensions.q) (some : 0 < p.dimensions.s +
 
   own : IsFirstLeast x from (best_of p (is_of_job p.dimensions j))
   own = same_tests x (λ d. is_tree_design (tree_of p) d && is_of_job p.dimensions j d) from
-      (λ d. ap (λ b. is_tree_design (tree_of p) d && b) (front-extends (p.dimensions.m + 2) d j job)) _
+      (λ d. cc (front-extends (p.dimensions.m + 2) d j job)) _
       (best-least p f some least (is_of_job p.dimensions j))
 
   -- what a job tells is its best, or nothing where nothing of it is better

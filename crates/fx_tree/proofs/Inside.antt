@@ -1,7 +1,7 @@
 -- The nodes inside a job are the candidates from the job on, through its first design.
 use Rattle.std.proofs.Common.{◌≡◌, ℕ, suc, ◌+◌, ◌-◌, ◌<◌, ◌≤◌, Bool, true, false, not, ◌&&◌, ◌||◌, cond, eqb, ltb, List}
-use Rattle.std.proofs.Common.{[], ◌∷◌, ◌++◌, map, length, drop, Option, Some, None, refl, sym, ap, ap₂, ◌∙◌, arith, inl}
-use Rattle.std.proofs.Common.{inr, subst, ne_eqb, lt-ltb, append-nil, length-append, length-take, take-append-drop}
+use Rattle.std.proofs.Common.{[], ◌∷◌, ◌++◌, map, length, drop, Option, Some, None, refl, sym, ap, ◌∙◌, arith, inl}
+use Rattle.std.proofs.Common.{inr, ne_eqb, lt-ltb, append-nil, length-append, length-take, take-append-drop}
 use Rattle.std.specs.List.{filter, list_any, find, AllByRecursion}
 use Rattle.std.proofs.lemmas.Bool.{cond-true, cond-false, cases_Bool, and_from, and_right, or_left, or_right, and_parts}
 use Rattle.std.proofs.lemmas.Bool.{not_from_true, not_from_false}
@@ -25,7 +25,7 @@ filter-and a b (x ∷ xs) =
     elim (a x) as
     (λ z. cond (z && b x) (x ∷ filter (λ p. a p && b p) xs) (filter (λ p. a p && b p) xs)
     ≡ filter b (cond z (x ∷ filter a xs) (filter a xs))) [
-      | true ↦ ap (λ l. cond (b x) (x ∷ l) l) (filter-and a b xs)
+      | true ↦ cc (filter-and a b xs)
       | false ↦ filter-and a b xs
     ]
 
@@ -34,10 +34,8 @@ pub through-same : (D E C : List ℕ → Bool) → ((p : List ℕ) → C p ≡ t
 through-same D E C h [] = refl
 through-same D E C h (x ∷ xs) =
     elim (cases_Bool (C x)) [
-      | inl a ↦ ap (through D) (cond-true (C x) (x ∷ filter C xs) _ a) ∙ ap₂ (λ z l. x ∷ cond z [] l) (h x a)
-          (through-same D E C h xs) ∙ sym (ap (through E) (cond-true (C x) (x ∷ filter C xs) _ a))
-      | inr a ↦ ap (through D) (cond-false (C x) (x ∷ filter C xs) _ a) ∙ through-same D E C h xs ∙ sym
-          (ap (through E) (cond-false (C x) (x ∷ filter C xs) _ a))
+      | inl a ↦ cc (cond-true (C x) (x ∷ filter C xs) _ a, h x a, through-same D E C h xs)
+      | inr a ↦ cc (cond-false (C x) (x ∷ filter C xs) _ a, through-same D E C h xs)
     ]
 
 pub same-long : (j s : List ℕ) → 0 < length s → same (j ++ s) j ≡ false
@@ -64,8 +62,8 @@ module _ (t : Tree) (law : IsTree t) (r : ℕ) (tail : List ℕ) where
           → (find (is_own t j) (tree_prefixes t) ≡ None → some p ≡ false)
           × ((d : List ℕ) → find (is_own t j) (tree_prefixes t) ≡ Some d → some p ≡ before d p)
           → is_not_after (find (is_own t j) (tree_prefixes t)) p ≡ not (some p)
-      go None e h = ap (λ o. is_not_after o p) e ∙ sym (ap not (h.0 e))
-      go (Some d) e h = ap (λ o. is_not_after o p) e ∙ sym (ap not (h.1 d e))
+      go None e h = cc (e, h.0 e)
+      go (Some d) e h = cc (e, h.1 d e)
 
   unit : (a b : Bool) → b ≡ true → (a && b) ≡ a
   unit true b h = h
@@ -88,10 +86,7 @@ module _ (t : Tree) (law : IsTree t) (r : ℕ) (tail : List ℕ) where
             lt-ltb _ _ (omega (arith, length-take (length p - 1) p)) in
             let branch : is_branch_in t j (parent p) ≡ t.allowed (parent p) =
             unit (t.allowed (parent p)) _ (and_from _ _ low (not_from_false _ up)) in
-            ap (λ b. extends p j
-            && (t.canonical p && ((same p j || b) && is_not_after (find (is_own t j) (tree_prefixes t)) p))) branch
-            ∙ ap (λ b. extends p j && (t.canonical p && b)) (unit _ _ (after_is p ∙ not_from_false _ a))
-            ∙ sym (unit (extends p j && rest p) _ (not_from_false _ a))
+            cc (branch, unit _ _ (after_is p ∙ not_from_false _ a), unit (extends p j && rest p) _ (not_from_false _ a))
       ]
 
   own_inside : (d : List ℕ) → is_own t j d ≡ true → (extends d j && rest d) ≡ true
@@ -103,7 +98,7 @@ module _ (t : Tree) (law : IsTree t) (r : ℕ) (tail : List ℕ) where
       let whole : parent d ++ drop (length d - 1) d ≡ d = take-append-drop (length d - 1) d in
       let allowed : t.allowed (parent d) ≡ true =
       closed-append t.allowed law.allowed (parent d) (drop (length d - 1) d)
-      (subst (λ l. t.allowed l ≡ true) (sym whole) parts.1) in
+      (rw whole parts.1) in
       and_from _ _ own.1 (and_from _ _ parts.0 (or_right _ _ allowed))
 
   -- below j the two ways to say "under an allowed prefix" are one
@@ -112,7 +107,7 @@ module _ (t : Tree) (law : IsTree t) (r : ℕ) (tail : List ℕ) where
   rest_is (q ∷ s) h =
       let long : eqb (length (parent (j ++ q ∷ s))) 0 ≡ false =
       ne_eqb _ _ (λ z. omega (arith, z, ap length (parent-append j q s), length-append j (parent (q ∷ s)))) in
-      ap (λ a. t.canonical (j ++ q ∷ s) && (a || t.allowed (parent (j ++ q ∷ s)))) (same-long j (q ∷ s) h ∙ sym long)
+      cc (same-long j (q ∷ s) h, long)
 
   filter-map : (ls : List (List ℕ)) → AllByRecursion (λ s. 0 < length s) ls
       → filter rest (map (λ s. j ++ s) ls) ≡ filter (is_candidate t) (map (λ s. j ++ s) ls)
@@ -129,24 +124,29 @@ module _ (t : Tree) (law : IsTree t) (r : ℕ) (tail : List ℕ) where
       let below : filter rest (map (λ s. j ++ s) (lists t.rows k)) ≡ under t k j =
       filter-map (lists t.rows k) (nonempty t.rows k) in
       let all : filter (λ p. extends p j && rest p) (tree_prefixes t) ≡ j ∷ under t k j =
-      filter-and (λ p. extends p j) rest (tree_prefixes t)
-      ∙ ap (filter rest) (ap (λ n. filter (λ p. extends p j) (lists t.rows n)) size ∙ beginning t.rows k r tail ranged)
-      ∙ ap (λ l. filter rest (l ∷ map (λ s. j ++ s) (lists t.rows k))) (append-nil j)
-      ∙ cond-true (rest j) _ _ own
-      ∙ ap (λ l. j ∷ l) below in
+      cc (
+        filter-and (λ p. extends p j) rest (tree_prefixes t),
+        size,
+        beginning t.rows k r tail ranged,
+        append-nil j,
+        cond-true (rest j) _ _ own,
+        below,
+      ) in
       let whole : j ∷ under t k j ≡ subtree t k j = elim (cases_Bool (t.allowed j)) [
-        | inl a ↦ ap (λ l. j ∷ l) (sym (cond-true (t.allowed j) (under t k j) [] a))
-        | inr a ↦ ap (λ l. j ∷ l)
-            (under-none t law k j (omega arith) a ∙ sym (cond-false (t.allowed j) (under t k j) [] a))
+        | inl a ↦ cc (cond-true (t.allowed j) (under t k j) [] a)
+        | inr a ↦ cc (under-none t law k j (omega arith) a, cond-false (t.allowed j) (under t k j) [] a)
       ] in
-      filter_agree_each (is_node_in t j) (λ p. (extends p j && rest p) && not (some p)) (tree_prefixes t)
-      (each-weaker (λ p. (0 < length p) × (length p ≤ t.size)) _ (tree_prefixes t) (λ p h. is_cut p h.0 h.1)
-      (each-both _ _ (tree_prefixes t) (nonempty t.rows t.size) (lists-short t.rows t.size)))
-      ∙ cut (is_own t j) (λ p. extends p j && rest p) own_inside some (tree_prefixes t) (lists-sorted t.rows t.size)
-      (each-same (tree_prefixes t))
-      ∙ through-same (is_own t j) (is_tree_design t) (λ p. extends p j && rest p)
-      (λ p h. unit (is_tree_design t p) (extends p j) (and_parts (extends p j) (rest p) h).0) (tree_prefixes t)
-      ∙ ap (through (is_tree_design t)) (all ∙ whole)
+      cc (
+        filter_agree_each (is_node_in t j) (λ p. (extends p j && rest p) && not (some p)) (tree_prefixes t)
+            (each-weaker (λ p. (0 < length p) × (length p ≤ t.size)) _ (tree_prefixes t) (λ p h. is_cut p h.0 h.1)
+            (each-both _ _ (tree_prefixes t) (nonempty t.rows t.size) (lists-short t.rows t.size))),
+        cut (is_own t j) (λ p. extends p j && rest p) own_inside some (tree_prefixes t) (lists-sorted t.rows t.size)
+            (each-same (tree_prefixes t)),
+        through-same (is_own t j) (is_tree_design t) (λ p. extends p j && rest p)
+            (λ p h. unit (is_tree_design t p) (extends p j) (and_parts (extends p j) (rest p) h).0) (tree_prefixes t),
+        all,
+        whole,
+      )
     where
       each-same : (xs : List (List ℕ)) → AllByRecursion (λ p. some p ≡ some p) xs
       each-same [] = tt

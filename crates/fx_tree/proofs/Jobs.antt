@@ -1,5 +1,5 @@
 -- The nodes and the marks inside a job, and those of a problem in its jobs.
-use Rattle.std.proofs.Common.{◌≡◌, ℕ, zero, suc, ◌≤◌, ◌+◌, ◌-◌, ◌^◌, Bool, true, false, not, ◌&&◌, ◌||◌, if◌then◌else◌}
+use Rattle.std.proofs.Common.{◌≡◌, ℕ, zero, suc, ◌≤◌, ◌+◌, ◌-◌, ◌^◌, Bool, true, false, not, ◌&&◌, ◌||◌}
 use Rattle.std.proofs.Common.{eqb, ltb, List, [], ◌∷◌, ◌++◌, map, length, take, None, refl, sym, subst, ap, ap₂, ◌∙◌}
 use Rattle.std.proofs.Common.{inl, inr, arith, append-nil, length-append, lt-ltb}
 use Rattle.std.specs.List.{filter, find, list_any, AllByRecursion}
@@ -15,8 +15,8 @@ use Rattle.fx_designs.specs.Demands.{is_allowed}
 use Rattle.fx_designs.specs.Canonical.{is_canonical}
 use Rattle.fx_designs.specs.Patterns.{pattern_of, is_less}
 use Rattle.fx_designs.specs.Answers.{before, prefixes}
-use Rattle.fx_designs.specs.Nodes.{parent, last_row, lot_of, job_of, counts, excludes, is_branch, is_complete_allowed}
-use Rattle.fx_designs.specs.Nodes.{is_not_after, Branch, Word, Worse, word_of}
+use Rattle.fx_designs.specs.Nodes.{parent, lot_of, job_of, counts, excludes, is_branch, is_complete_allowed}
+use Rattle.fx_designs.specs.Nodes.{is_not_after}
 use Rattle.fx_laws.specs.Trees.{Tree, tree_of, is_tree_design}
 use Rattle.fx_laws.specs.Walks.{through, is_candidate, subtree, mark_at}
 use Rattle.fx_laws.proofs.Candidates.{parent-append}
@@ -78,43 +78,39 @@ module _ (p : Problem) (f : IsField p.dimensions.q) (j : List ℕ) (job : length
       let len = whole m h in
       let long : length q ≡ length j + length s.0 = ap length s.1 ∙ length-append j s.0 in
       let lots : take (d.m + 1) q ≡ take (d.m + 1) j =
-      ap (take (d.m + 1)) s.1 ∙ take-append-le (d.m + 1) j s.0 (omega arith) in
-      ap (λ b. b && before (lot_of d m) (lot_of d j)) (lt-ltb d.m (length m) (omega arith))
-      ∙ ap (before (lot_of d m)) (sym lots)
-      ∙ sym (front-before (d.m + 1) m q (omega arith) (omega arith))
+      cc (s.1, take-append-le (d.m + 1) j s.0 (omega arith)) in
+      cc (lt-ltb d.m (length m) (omega arith), lots, front-before (d.m + 1) m q (omega arith) (omega arith))
 
   jobs-of : (m q : List ℕ) → extends q j ≡ true → same (job_of d m) (job_of d q) ≡ is_of_job d j m
   jobs-of m q e =
       let s = split_of q j e in
       ap (same (job_of d m))
-      (ap (take (d.m + 2)) s.1 ∙ take-append-le (d.m + 2) j s.0 (omega arith) ∙ take_all (d.m + 2) j (omega arith))
+      (cc (s.1, take-append-le (d.m + 2) j s.0 (omega arith), take_all (d.m + 2) j (omega arith)))
 
   module _ (least : p.least ≡ true) where
     excludes-least : (m q : List ℕ) → extends q j ≡ true
         → (is_complete_allowed p m && excludes_inside p j m q) ≡ (is_complete_allowed p m && excludes p m q)
     excludes-least m q e =
         elim (cases_Bool (is_complete_allowed p m)) [
-          | inr out ↦ and_left _ _ out ∙ sym (and_left _ _ out)
+          | inr out ↦ cc (and_left _ _ out)
           | inl h ↦
               let n : Bool = not (is_less (pattern_of d q) (pattern_of d m)) in
               let s = split_of q j e in
               let long : length q ≡ length j + length s.0 = ap length s.1 ∙ length-append j s.0 in
               let some : ltb d.m (length q) ≡ true = lt-ltb d.m (length q) (omega arith) in
-              ap (λ b. is_complete_allowed p m && b) (
-              ap₂ (λ a b. (a || is_of_job d j m) && (before m q && b)) (earlier m q h e) (ap (λ b. not b || n) least)
-              ∙ ap (λ b. ((before m q && not (same (lot_of d m) (lot_of d q))) || b) && (before m q && n))
-              (sym (jobs-of m q e))
-              ∙ least-table (before m q) (same (lot_of d m) (lot_of d q)) (same (job_of d m) (job_of d q)) n
-              ∙ ap (λ b.
-              (before m q && not (b && (same (lot_of d m) (lot_of d q) && not (same (job_of d m) (job_of d q)))))
-              && n) (sym some)
-              ∙ sym (cond-true p.least (counts d m q && n) (before m q) least))
+              cc (
+                earlier m q h e,
+                least,
+                jobs-of m q e,
+                least-table (before m q) (same (lot_of d m) (lot_of d q)) (same (job_of d m) (job_of d q)) n,
+                some,
+                cond-true p.least (counts d m q && n) (before m q) least,
+              )
         ]
 
     -- inside a job a branch is a branch of the problem
     pub branch-least : (q : List ℕ) → extends q j ≡ true → is_branch_inside p j q ≡ is_branch p q
-    branch-least q e = ap (λ b. is_allowed d p.requirement q && (ltb (length q) (d.s + d.t) && not b))
-        (list_any_agree (λ m. is_complete_allowed p m && excludes_inside p j m q)
+    branch-least q e = cc (list_any_agree (λ m. is_complete_allowed p m && excludes_inside p j m q)
         (λ m. is_complete_allowed p m && excludes p m q) (λ m. excludes-least m q e) (prefixes p))
 
     own-never : (m : List ℕ) → is_own T j m ≡ false
@@ -124,8 +120,7 @@ module _ (p : Problem) (f : IsField p.dimensions.q) (j : List ℕ) (job : length
     branch-in-least q =
         let none : list_any (λ m. is_own T j m && before m q) (prefixes p) ≡ false =
         any-never _ (λ m. and_left _ _ (own-never m)) (prefixes p) in
-        ap₂ (λ a b. a && (ltb (length q) (d.s + d.t) && not b)) (opens-least p least q) none
-        ∙ fold (is_allowed d p.requirement q) (ltb (length q) (d.s + d.t)) _
+        cc (opens-least p least q, none, fold (is_allowed d p.requirement q) (ltb (length q) (d.s + d.t)) _)
       where
         fold : (a b c : Bool) → ((a && (b && c)) && (b && true)) ≡ (a && (b && c))
         fold true true true = refl
@@ -139,7 +134,7 @@ module _ (p : Problem) (f : IsField p.dimensions.q) (j : List ℕ) (job : length
     last-least : (rows : List ℕ)
         → (p.least || is_not_after (first_inside p j) rows) ≡ is_not_after (find (is_own T j) (prefixes p)) rows
     last-least rows =
-        or_left _ _ least ∙ sym (ap (λ o. is_not_after o rows) (find-never (is_own T j) own-never (prefixes p)))
+        cc (or_left _ _ least, find-never (is_own T j) own-never (prefixes p))
 
   module _ (plain : p.least ≡ false) (branch : is_branch p (lot_of d j) ≡ true) where
     -- no complete allowed matrix precedes the lot
@@ -165,7 +160,7 @@ module _ (p : Problem) (f : IsField p.dimensions.q) (j : List ℕ) (job : length
         none-each g [] h = tt
         none-each g (y ∷ ys) h = elim (cases_Bool (g y)) [
           | inl a ↦ clash (list_any g (y ∷ ys)) (or_left _ _ a) h
-          | inr a ↦ (a, none-each g ys (sym (ap (λ b. b || list_any g ys) a) ∙ h))
+          | inr a ↦ (a, none-each g ys (cc (a, h)))
         ]
 
     -- so none is of an earlier lot
@@ -186,8 +181,7 @@ module _ (p : Problem) (f : IsField p.dimensions.q) (j : List ℕ) (job : length
           | inr out ↦ and_left _ _ out ∙ sym (and_left _ _ (and_left _ _ (design-plain p plain m ∙ out)))
           | inl h ↦
               ap₂ (λ a b. a && b) h
-              (ap₂ (λ a b. (a || is_of_job d j m) && (before m q && b)) (none-earlier m h)
-              (or_left _ _ (not_from_false _ plain)))
+              (cc (none-earlier m h, or_left _ _ (not_from_false _ plain)))
               ∙ order (is_of_job d j m) (before m q)
               ∙ ap₂ (λ a b. (a && b) && before m q) (sym (design-plain p plain m ∙ h)) (of-job m)
         ]
@@ -198,17 +192,21 @@ module _ (p : Problem) (f : IsField p.dimensions.q) (j : List ℕ) (job : length
         order false b = refl
 
     pub same-branch-plain : (q : List ℕ) → is_branch_inside p j q ≡ is_branch_in T j q
-    same-branch-plain q = ap₂ (λ a b. a && (ltb (length q) (d.s + d.t) && not b)) (sym (opens-plain p plain q))
-        (list_any_agree (λ m. is_complete_allowed p m && excludes_inside p j m q) (λ m. is_own T j m && before m q)
-        (λ m. excludes-plain m q) (prefixes p))
+    same-branch-plain q = cc (
+      opens-plain p plain q,
+      list_any_agree (λ m. is_complete_allowed p m && excludes_inside p j m q) (λ m. is_own T j m && before m q)
+          (λ m. excludes-plain m q) (prefixes p),
+    )
 
     last-plain : (rows : List ℕ)
         → (p.least || is_not_after (first_inside p j) rows) ≡ is_not_after (find (is_own T j) (prefixes p)) rows
     unfolding first_inside
     last-plain rows =
-        or-false plain ∙ ap (λ o. is_not_after o rows)
-        (find_agree (λ m. is_complete_allowed p m && is_of_job d j m) (is_own T j)
-        (λ m. ap₂ (λ a b. a && b) (sym (design-plain p plain m)) (of-job m)) (prefixes p))
+        cc (
+          or-false plain,
+          find_agree (λ m. is_complete_allowed p m && is_of_job d j m) (is_own T j)
+              (λ m. ap₂ (λ a b. a && b) (sym (design-plain p plain m)) (of-job m)) (prefixes p),
+        )
       where
         or-false : {a b : Bool} → a ≡ false → (a || b) ≡ b
         or-false e = rw e refl
@@ -226,18 +224,16 @@ module _ (p : Problem) (f : IsField p.dimensions.q) (j : List ℕ) (job : length
     node-same rows =
         elim (cases_Bool (extends rows j)) [
           | inr out ↦ and_left _ _ (of-job rows ∙ out) ∙ sym (and_left _ _ out)
-          | inl e ↦ ap₂ (λ a b. a && (is_canonical d p.requirement rows && b)) (of-job rows)
-              (ap₂ (λ a b. a && b) (up (split_of rows j e).0 (split_of rows j e).1) (same-last rows))
+          | inl e ↦ cc (of-job rows, up (split_of rows j e).0 (split_of rows j e).1, same-last rows)
         ]
       where
         up : (s : List ℕ) → rows ≡ j ++ s
             → (same rows j || is_branch_inside p j (parent rows)) ≡ (same rows j || is_branch_in T j (parent rows))
         up [] e =
-            let own : same rows j ≡ true = ap (λ l. same l j) (e ∙ append-nil j) ∙ same-self j in
-            or_left _ _ own ∙ sym (or_left _ _ own)
+            let own : same rows j ≡ true = cc (e, append-nil j, same-self j) in
+            cc (or_left _ _ own)
         up (r ∷ s) e =
-            ap (λ b. same rows j || b)
-            (same-branch (parent rows)
+            cc (same-branch (parent rows)
             (subst (λ l. extends l j ≡ true) (sym (ap parent e ∙ parent-append j r s))
             (extends-append j (parent (r ∷ s)))))
 
@@ -266,19 +262,15 @@ module _ (p : Problem) (f : IsField p.dimensions.q) (j : List ℕ) (job : length
         plain-mark : (rows : List ℕ) → p.least ≡ false → is_node_in T j rows ≡ true → (b : Bool)
             → is_allowed d p.requirement rows ≡ b → mark_inside p j rows ≡ mark_at (tree_of p) rows
         plain-mark rows h node false a =
-            cond-false (is_allowed d p.requirement rows) _ _ a ∙ sym
-            (cond-false (is_allowed d p.requirement rows) _ _ a)
+            cc (cond-false (is_allowed d p.requirement rows) _ _ a)
         plain-mark rows h node true a =
             let last =
             (and_parts (same rows j || is_branch_in T j (parent rows)) _
             (and_parts (is_canonical d p.requirement rows) _ (and_parts (extends rows j) _ node).1).1).1 in
             let none : list_any (λ m. is_own T j m && before m rows) (prefixes p) ≡ false = seen-none j job rows last in
             let is : is_branch_inside p j rows ≡ ltb (length rows) (d.s + d.t) =
-            same-branch-plain h branch rows ∙ ap₂ (λ a b. a && (ltb (length rows) (d.s + d.t) && not b))
-            (opens-plain p h rows ∙ a) none ∙ unit (ltb (length rows) (d.s + d.t)) in
-            cond-true (is_allowed d p.requirement rows) _ _ a ∙ ap
-            (λ b. if b then Branch (last_row rows) else Worse (last_row rows)) is ∙ sym
-            (cond-true (is_allowed d p.requirement rows) _ _ a)
+            cc (same-branch-plain h branch rows, opens-plain p h rows, a, none, unit (ltb (length rows) (d.s + d.t))) in
+            cc (cond-true (is_allowed d p.requirement rows) _ _ a, is)
           where
             unit : (a : Bool) → (true && (a && true)) ≡ a
             unit true = refl
@@ -294,10 +286,7 @@ module _ (p : Problem) (f : IsField p.dimensions.q) (j : List ℕ) (job : length
         one rows h = elim (cases_Bool p.least) [
           | inl e ↦
               let own : extends rows j ≡ true = sym (of-job rows) ∙ (and_parts (is_of_job d j rows) _ h).0 in
-              ap (λ b. if is_allowed d p.requirement rows
-              then (if b then Branch (last_row rows) else Worse (last_row rows))
-              else Word (last_row rows) (word_of p rows)) (branch-least e rows own)
-              ∙ sym (mark-least p e rows)
+              cc (branch-least e rows own, mark-least p e rows)
           | inr e ↦ plain-mark rows e (sym (node-same rows) ∙ h) (is_allowed d p.requirement rows) refl ∙ sym
               (mark-plain p e rows)
         ]
@@ -307,20 +296,25 @@ module _ (p : Problem) (f : IsField p.dimensions.q) (j : List ℕ) (job : length
         → first_inside p j ≡ find D (subtree T (d.s + d.t - length j) j)
     unfolding first_inside
     first-inside plain open' =
-        find_agree (λ m. is_complete_allowed p m && is_of_job d j m) (λ y. (extends y j && is_candidate T y) && D y)
-        agree (prefixes p)
-        ∙ sym (find-filter (λ y. extends y j && is_candidate T y) D (prefixes p))
-        ∙ ap (find D) (go j job canonical job-ranged open')
+        cc (
+          find_agree (λ m. is_complete_allowed p m && is_of_job d j m) (λ y. (extends y j && is_candidate T y) && D y)
+              agree (prefixes p),
+          find-filter (λ y. extends y j && is_candidate T y) D (prefixes p),
+          go j job canonical job-ranged open',
+        )
       where
         turn : (a b c : Bool) → (a ≡ true → c ≡ true) → (a && b) ≡ ((b && c) && a)
-        turn true true c h = sym (ap (λ z. z && true) (h refl))
+        turn true true c h = sym (cc (h refl))
         turn true false c h = refl
         turn false true c h = sym (and_right c false refl)
         turn false false c h = refl
 
         agree : (m : List ℕ) → (is_complete_allowed p m && is_of_job d j m) ≡ ((extends m j && is_candidate T m) && D m)
-        agree m = ap₂ (λ a b. a && b) (sym (design-plain p plain m)) (of-job m) ∙ turn (D m) (extends m j)
-            (is_candidate T m) (λ e. design-candidate T (walked-law p f) m e)
+        agree m = cc (
+          design-plain p plain m,
+          of-job m,
+          turn (D m) (extends m j) (is_candidate T m) (λ e. design-candidate T (walked-law p f) m e),
+        )
 
         go : (l : List ℕ) → length l ≡ d.m + 2 → is_canonical d p.requirement l ≡ true → Ranged (d.q ^ d.m) l
             → is_expanded p (parent l) ≡ true

@@ -1,6 +1,6 @@
 -- The nodes of a problem in a job, and in the jobs of a lot.
 use Rattle.std.proofs.Common.{◌≡◌, ℕ, suc, ◌<◌, ◌≤◌, ◌+◌, ◌-◌, ◌^◌, Bool, true, false, not, ◌&&◌, ◌||◌, eqb, ltb, List}
-use Rattle.std.proofs.Common.{[], ◌∷◌, ◌++◌, length, take, drop, Option, Some, None, refl, sym, subst, ap, ap₂, ◌∙◌}
+use Rattle.std.proofs.Common.{[], ◌∷◌, ◌++◌, length, take, drop, Option, Some, None, refl, sym, subst, ap, ◌∙◌}
 use Rattle.std.proofs.Common.{inl, inr, arith, length-append, take-append-drop}
 use Rattle.std.specs.List.{filter, find, flat_map, list_any}
 use Rattle.std.proofs.lemmas.Bool.{cond-true, cond-false, cases_Bool, and_parts, and_from, and_left, and_right}
@@ -80,7 +80,7 @@ module _ (p : Problem) (f : IsField p.dimensions.q) (some : 0 < p.dimensions.s +
         let design : is_tree_design (tree_of p) m ≡ true = sym (design-plain p plain m) ∙ own in
         let there = design-in (ranked p) (is-ranked p f) m design some in
         let is_counted : list_any (λ z. is_tree_design (tree_of p) z && before z q) (prefixes p) ≡ false =
-        go (tree_answer (tree_of p)) refl (ap (λ o. is_not_after o q) (sym (answer-same p f plain)) ∙ last)
+        go (tree_answer (tree_of p)) refl (cc (answer-same p f plain, last))
         (first_decides (is_tree_design (tree_of p)) (prefixes p) (lists-sorted _ _) q) in
         clash (is_tree_design (tree_of p) m && before m q) (and_from _ _ design first)
         (has-each (λ z. (is_tree_design (tree_of p) z && before z q) ≡ false) m (prefixes p)
@@ -94,7 +94,7 @@ module _ (p : Problem) (f : IsField p.dimensions.q) (some : 0 < p.dimensions.s +
           → list_any (λ z. is_tree_design (tree_of p) z && before z q) (prefixes p) ≡ before d q)
           → list_any (λ z. is_tree_design (tree_of p) z && before z q) (prefixes p) ≡ false
       go None e l h = h.0 e
-      go (Some d) e l h = h.1 d e ∙ not-true _ (sym (ap (λ o. is_not_after o q) e) ∙ l)
+      go (Some d) e l h = h.1 d e ∙ not-true _ (cc (e, l))
 
   -- an open prefix is a candidate where it is canonical
   open-candidate : (q : List ℕ) → is_canonical p.dimensions p.requirement q ≡ true → is_expanded p (parent q) ≡ true
@@ -104,7 +104,7 @@ module _ (p : Problem) (f : IsField p.dimensions.q) (some : 0 < p.dimensions.s +
   pub parent-open : (q : List ℕ) → is_expanded p q ≡ true → is_expanded p (parent q) ≡ true
   parent-open q h =
       closed-append (is_expanded p) (walked-law p f).allowed (parent q) (drop (length q - 1) q)
-      (subst (λ l. is_expanded p l ≡ true) (sym (take-append-drop (length q - 1) q)) h)
+      (rw (take-append-drop (length q - 1) q) h)
 
   -- the nodes of the problem in a job that does not stand after the answer are the nodes inside it
   pub job-nodes : (j : List ℕ) → length j ≡ p.dimensions.m + 2 → p.dimensions.m + 2 ≤ p.dimensions.s + p.dimensions.t
@@ -112,13 +112,15 @@ module _ (p : Problem) (f : IsField p.dimensions.q) (some : 0 < p.dimensions.s +
       → is_branch p (lot_of p.dimensions j) ≡ true → (p.least || is_not_after (answer p) j) ≡ true
       → filter (is_of_job p.dimensions j) (nodes p) ≡ nodes_inside p j
   job-nodes j job room canonical branch last =
-      filter_agree_each (is_of_job p.dimensions j) (λ y. extends y j) (nodes p)
-      (each-all _ (nodes p) (λ y. front-extends (p.dimensions.m + 2) y j job))
-      ∙ ap (filter (λ y. extends y j)) (nodes-walked p f)
-      ∙ go j job canonical (job-ranged p f j job room canonical branch)
-      (subst (λ l. is_expanded p l ≡ true) lot (branch-open (lot_of p.dimensions j) branch))
-      (none-before-answer j last)
-      ∙ sym (nodes-inside p f j job room canonical branch)
+      cc (
+        filter_agree_each (is_of_job p.dimensions j) (λ y. extends y j) (nodes p)
+            (each-all _ (nodes p) (λ y. front-extends (p.dimensions.m + 2) y j job)),
+        nodes-walked p f,
+        go j job canonical (job-ranged p f j job room canonical branch)
+            (subst (λ l. is_expanded p l ≡ true) lot (branch-open (lot_of p.dimensions j) branch))
+            (none-before-answer j last),
+        nodes-inside p f j job room canonical branch,
+      )
     where
       lot : lot_of p.dimensions j ≡ parent j
       lot = ap (λ n. take n j) (let e : p.dimensions.m + 1 ≡ length j - 1 = omega arith in e)
@@ -144,11 +146,13 @@ module _ (p : Problem) (f : IsField p.dimensions.q) (some : 0 < p.dimensions.s +
     pub lot-nodes : nodes_of_lot p l ≡ through D (under T (p.dimensions.s + p.dimensions.t - length l) l)
     unfolding nodes_of_lot
     lot-nodes =
-        filter_agree_each (is_in_a_job p.dimensions l) (λ y. extends y l && ltb (length l) (length y)) (nodes p)
-        (each-all _ (nodes p) test)
-        ∙ ap (filter (λ y. extends y l && ltb (length l) (length y))) (nodes-walked p f)
-        ∙ go l lot canonical lot-ranged (branch-open l branch) (parent-open l (branch-open l branch))
-        (none-before-branch l branch)
+        cc (
+          filter_agree_each (is_in_a_job p.dimensions l) (λ y. extends y l && ltb (length l) (length y)) (nodes p)
+              (each-all _ (nodes p) test),
+          nodes-walked p f,
+          go l lot canonical lot-ranged (branch-open l branch) (parent-open l (branch-open l branch))
+              (none-before-branch l branch),
+        )
       where
         turn : (a b : Bool) → (a && b) ≡ (b && a)
         turn true true = refl
@@ -157,8 +161,7 @@ module _ (p : Problem) (f : IsField p.dimensions.q) (some : 0 < p.dimensions.s +
         turn false false = refl
 
         test : (y : List ℕ) → is_in_a_job p.dimensions l y ≡ (extends y l && ltb (length l) (length y))
-        test y = ap₂ (λ a b. a && b) (ap (λ n. ltb n (length y)) (sym lot)) (front-extends (p.dimensions.m + 1) y l lot)
-            ∙ turn (ltb (length l) (length y)) (extends y l)
+        test y = cc (lot, front-extends (p.dimensions.m + 1) y l lot, turn (ltb (length l) (length y)) (extends y l))
 
         go : (l : List ℕ) → length l ≡ p.dimensions.m + 1 → is_canonical p.dimensions p.requirement l ≡ true
             → Ranged (p.dimensions.q ^ p.dimensions.m) l → is_expanded p l ≡ true → is_expanded p (parent l) ≡ true
@@ -178,13 +181,17 @@ module _ (p : Problem) (f : IsField p.dimensions.q) (some : 0 < p.dimensions.s +
     lot-jobs =
         let k : ℕ = p.dimensions.s + p.dimensions.t - length l - 1 in
         let e : p.dimensions.s + p.dimensions.t - length l ≡ suc k = omega arith in
-        ap (λ n. under T n l) e ∙ under-step T (walked-law p f) l k (inr (branch-open l branch))
-        ∙ flat_same (λ r. subtree T k (l ++ r ∷ []))
-        (λ r. subtree T (p.dimensions.s + p.dimensions.t - length (l ++ r ∷ [])) (l ++ r ∷ []))
-        (λ r. ap (λ n. subtree T n (l ++ r ∷ []))
-        (let z : k
-        ≡ p.dimensions.s + p.dimensions.t - length (l ++ r ∷ []) = omega (arith, length-append l (r ∷ [])) in z))
-        (children_of T l)
+        cc (
+          e,
+          under-step T (walked-law p f) l k (inr (branch-open l branch)),
+          flat_same (λ r. subtree T k (l ++ r ∷ []))
+              (λ r. subtree T (p.dimensions.s + p.dimensions.t - length (l ++ r ∷ [])) (l ++ r ∷ []))
+              (λ r. ap (λ n. subtree T n (l ++ r ∷ []))
+              (let z : k ≡ p.dimensions.s + p.dimensions.t - length (l ++ r ∷ []) = omega (
+                arith,
+                length-append l (r ∷ []),
+              ) in z)) (children_of T l),
+        )
       where
         flat_same : (g h : ℕ → List (List ℕ)) → ((r : ℕ) → g r ≡ h r) → (xs : List ℕ) → flat_map g xs ≡ flat_map h xs
         flat_same g h e [] = refl
@@ -195,11 +202,13 @@ module _ (p : Problem) (f : IsField p.dimensions.q) (some : 0 < p.dimensions.s +
         → first_of_lot p l ≡ find D (under T (p.dimensions.s + p.dimensions.t - length l) l)
     unfolding first_of_lot
     first-of-lot plain =
-        find_agree (λ m. is_complete_allowed p m && is_in_a_job p.dimensions l m)
-        (λ y. (extends y l && is_candidate T y) && D y) agree (prefixes p)
-        ∙ sym (find-filter (λ y. extends y l && is_candidate T y) D (prefixes p))
-        ∙ ap (find D) (go l lot canonical lot-ranged (branch-open l branch) (parent-open l (branch-open l branch)))
-        ∙ cond-false (D l) _ _ short
+        cc (
+          find_agree (λ m. is_complete_allowed p m && is_in_a_job p.dimensions l m)
+              (λ y. (extends y l && is_candidate T y) && D y) agree (prefixes p),
+          find-filter (λ y. extends y l && is_candidate T y) D (prefixes p),
+          go l lot canonical lot-ranged (branch-open l branch) (parent-open l (branch-open l branch)),
+          cond-false (D l) _ _ short,
+        )
       where
         short : D l ≡ false
         short = and_left _ _ (ne_eqb (length l) (p.dimensions.s + p.dimensions.t) (λ e. omega arith))
@@ -218,10 +227,12 @@ module _ (p : Problem) (f : IsField p.dimensions.q) (some : 0 < p.dimensions.s +
         agree : (m : List ℕ)
             → (is_complete_allowed p m && is_in_a_job p.dimensions l m) ≡ ((extends m l && is_candidate T m) && D m)
         agree m =
-            ap₂ (λ a b. a && (ltb (p.dimensions.m + 1) (length m) && b)) (sym (design-plain p plain m))
-            (front-extends (p.dimensions.m + 1) m l lot)
-            ∙ turn (D m) (extends m l) (is_candidate T m) (ltb (p.dimensions.m + 1) (length m))
-            (λ e. design-candidate T (walked-law p f) m e) (full m)
+            cc (
+              design-plain p plain m,
+              front-extends (p.dimensions.m + 1) m l lot,
+              turn (D m) (extends m l) (is_candidate T m) (ltb (p.dimensions.m + 1) (length m))
+                  (λ e. design-candidate T (walked-law p f) m e) (full m),
+            )
 
         go : (l : List ℕ) → length l ≡ p.dimensions.m + 1 → is_canonical p.dimensions p.requirement l ≡ true
             → Ranged (p.dimensions.q ^ p.dimensions.m) l → is_expanded p l ≡ true → is_expanded p (parent l) ≡ true
@@ -229,6 +240,8 @@ module _ (p : Problem) (f : IsField p.dimensions.q) (some : 0 < p.dimensions.s +
             ≡ l ∷ under T (p.dimensions.s + p.dimensions.t - length l) l
         go [] h c r o' o = absurd (omega arith)
         go (a ∷ l) h c r o' o =
-            all-from T (walked-law p f) a l (p.dimensions.s + p.dimensions.t - length (a ∷ l)) (omega arith) r
-            (open-candidate (a ∷ l) c o)
-            ∙ ap (λ z. (a ∷ l) ∷ z) (cond-true (is_expanded p (a ∷ l)) _ _ o')
+            cc (
+              all-from T (walked-law p f) a l (p.dimensions.s + p.dimensions.t - length (a ∷ l)) (omega arith) r
+                  (open-candidate (a ∷ l) c o),
+              cond-true (is_expanded p (a ∷ l)) _ _ o',
+            )

@@ -1,7 +1,7 @@
 -- What counts_for above the jobs, and the prefixes of one job.
-use Rattle.std.proofs.Common.{◌≡◌, ◌≢◌, ℕ, zero, suc, ◌+◌, ◌<◌, ◌≤◌, Bool, true, false, not, ◌&&◌, ◌||◌, cond, eqb, ltb}
+use Rattle.std.proofs.Common.{◌≡◌, ◌≢◌, ℕ, zero, suc, ◌+◌, ◌<◌, ◌≤◌, Bool, true, false, ◌&&◌, ◌||◌, cond, eqb, ltb}
 use Rattle.std.proofs.Common.{List, [], ◌∷◌, ◌++◌, map, length, take, get_or, refl, sym, ap, ap₂, ◌∙◌, inl, inr, arith}
-use Rattle.std.proofs.Common.{subst, eq-eqb, ne_eqb, le-leb, eqb-true, append-nil, length-append, take_all}
+use Rattle.std.proofs.Common.{eq-eqb, ne_eqb, le-leb, eqb-true, append-nil, length-append, take_all}
 use Rattle.std.specs.List.{filter, flat_map}
 use Rattle.std.proofs.lemmas.Bool.{cases_Bool, and_from, and_left, and_right, or_from, and_parts, false_from_ne_true}
 use Rattle.std.proofs.lemmas.Bool.{not_from_true, not_from_false, lt-leb}
@@ -47,8 +47,7 @@ module _ (x : Ranked) (law : IsRanked x) (p : List ℕ) (part : length p < x.tre
                   child_of x law p part d k.0 k.1 k.2 (take i rows) ∙ falling-any
                   (λ j. x.tree.canonical (p ++ j ∷ [])) k.0 k.3 x.tree.rows i (law.ranged p k.0 k.3) low in
                   let here : before d (p ++ r ∷ []) ≡ ltb r k.0 =
-                  ap (λ l. before l (p ++ r ∷ [])) k.2 ∙ before-shift p (k.0 ∷ k.1) (r ∷ []) ∙ plain (ltb r k.0)
-                  (eqb k.0 r) in
+                  cc (k.2, before-shift p (k.0 ∷ k.1) (r ∷ []), plain (ltb r k.0) (eqb k.0 r)) in
                   let gone : counts_for x d p ≡ false = and_left _ _ (extends-not_before d p e) in
                   here ∙ sym (ap₂ (λ a b. (a && b) || (a && of_child x law p part (take i rows) d)) h gone ∙ own)
               | inr e ↦
@@ -72,7 +71,7 @@ module _ (x : Ranked) (law : IsRanked x) (p : List ℕ) (part : length p < x.tre
   pub job_seen : length p ≡ x.lot → (r : ℕ) → (d : List ℕ) → is_counted x (p ++ r ∷ []) d ≡ is_counted x p d
   job_seen at r d =
       elim (cases_Bool (is_tree_design x.tree d)) [
-        | inr out ↦ and_left _ _ out ∙ sym (and_left _ _ out)
+        | inr out ↦ cc (and_left _ _ out)
         | inl h ↦
             let full =
             eqb-true (length d) x.tree.size
@@ -81,7 +80,7 @@ module _ (x : Ranked) (law : IsRanked x) (p : List ℕ) (part : length p < x.tre
             ap₂ (λ a b. a && b) h (elim (cases_Bool (extends d p)) [
               | inl e ↦ split d e (omega arith)
               | inr e ↦ apart d e (omega arith)
-            ]) ∙ sym (ap (λ a. a && counts_for x d p) h)
+            ]) ∙ sym (cc h)
       ]
     where
       lot_is : take x.lot (p ++ r ∷ []) ≡ p
@@ -94,10 +93,13 @@ module _ (x : Ranked) (law : IsRanked x) (p : List ℕ) (part : length p < x.tre
       apart d e low =
           let other : same (take x.lot d) (take x.lot (p ++ r ∷ [])) ≡ false =
           false_from_ne_true (same (take x.lot d) (take x.lot (p ++ r ∷ [])))
-          (λ z. let w = take-same x.lot d p (subst (λ l. same (take x.lot d) l ≡ true) lot_is z) in
+          (λ z. let w = take-same x.lot d p (rw lot_is at z) in
           absurd (cc (w, e))) in
-          ap₂ (λ u v. u && not v) (before-apart d p (r ∷ []) low e)
-          (and_right _ _ (and_left _ _ other) ∙ sym (and_left _ _ (lt-leb (x.lot + 1) (length p) (omega arith))))
+          cc (
+            before-apart d p (r ∷ []) low e,
+            and_right _ _ (and_left _ _ other),
+            and_left _ _ (lt-leb (x.lot + 1) (length p) (omega arith)),
+          )
 
       split : (d : List ℕ) → extends d p ≡ true → length p < length d → counts_for x d (p ++ r ∷ []) ≡ counts_for x d p
       split d e low =
@@ -105,13 +107,18 @@ module _ (x : Ranked) (law : IsRanked x) (p : List ℕ) (part : length p < x.tre
           elim (cases_Bool (same (take (x.lot + 1) d) (take (x.lot + 1) (p ++ r ∷ [])))) [
             | inl a ↦
                 let own : extends d (p ++ r ∷ []) ≡ true =
-                take-same (x.lot + 1) d (p ++ r ∷ []) (subst (λ l. same (take (x.lot + 1) d) l ≡ true) job_is a) in
+                take-same (x.lot + 1) d (p ++ r ∷ []) (rw job_is at a) in
                 and_left _ _ (extends-not_before d (p ++ r ∷ []) own) ∙ sym gone
             | inr a ↦
                 let k = split_of d p e in
                 let lot_same : same (take x.lot d) (take x.lot (p ++ r ∷ [])) ≡ true =
-                ap₂ same (ap (take x.lot) k.1 ∙ take-append-le x.lot p k.0 (omega arith) ∙ take_all x.lot p
-                (omega arith)) lot_is ∙ same-self p in
+                cc (
+                  k.1,
+                  take-append-le x.lot p k.0 (omega arith),
+                  take_all x.lot p (omega arith),
+                  lot_is,
+                  same-self p,
+                ) in
                 let long : length (p ++ r ∷ []) ≡ length p + 1 = length-append p (r ∷ []) in
                 and_right _ _
                 (not_from_true _
@@ -127,13 +134,13 @@ map-filter f r (l ∷ ls) =
     elim (f (r ∷ l)) as
     (λ b. cond b ((r ∷ l) ∷ filter f (map (λ s. r ∷ s) ls)) (filter f (map (λ s. r ∷ s) ls))
     ≡ map (λ s. r ∷ s) (cond b (l ∷ filter (λ s. f (r ∷ s)) ls) (filter (λ s. f (r ∷ s)) ls))) [
-      | true ↦ ap (λ z. (r ∷ l) ∷ z) (map-filter f r ls)
+      | true ↦ cc (map-filter f r ls)
       | false ↦ map-filter f r ls
     ]
 
 filter-all : (ls : List (List ℕ)) → filter (λ s. true) ls ≡ ls
 filter-all [] = refl
-filter-all (l ∷ ls) = ap (λ z. l ∷ z) (filter-all ls)
+filter-all (l ∷ ls) = cc (filter-all ls)
 
 abbrev begun : ℕ → ℕ → ℕ → List (List ℕ)
 begun b k r = map (λ s. r ∷ s) ([] ∷ lists b k)
@@ -150,15 +157,20 @@ only b k r j n low = go n low
         (each-all _ ([] ∷ lists b k) (λ s. and_left _ _ (ne_eqb m r ne))))
 
     own : filter (λ s. extends s (r ∷ j)) (begun b k r) ≡ map (λ s. r ∷ s) (filter (λ s. extends s j) ([] ∷ lists b k))
-    own = map-filter (λ s. extends s (r ∷ j)) r ([] ∷ lists b k) ∙ ap (map (λ s. r ∷ s))
-        (filter_agree (λ s. eqb r r && extends s j) (λ s. extends s j)
-        (λ s. ap (λ z. z && extends s j) (eq-eqb r r refl)) ([] ∷ lists b k))
+    own = cc (
+      map-filter (λ s. extends s (r ∷ j)) r ([] ∷ lists b k),
+      filter_agree (λ s. eqb r r && extends s j) (λ s. extends s j)
+          (λ s. ap (λ z. z && extends s j) (eq-eqb r r refl)) ([] ∷ lists b k),
+    )
 
     past : (m : ℕ) → m ≤ r → filter (λ s. extends s (r ∷ j)) (flat_map (begun b k) (falling m)) ≡ []
     past zero le = refl
     past (suc m) le = let ne : m ≢ r = λ z. omega arith in
-        filter-append (λ s. extends s (r ∷ j)) (begun b k m) (flat_map (begun b k) (falling m)) ∙ ap₂ (λ u v. u ++ v)
-        (other m ne) (past m (omega arith))
+        cc (
+          filter-append (λ s. extends s (r ∷ j)) (begun b k m) (flat_map (begun b k) (falling m)),
+          other m ne,
+          past m (omega arith),
+        )
 
     go : (n : ℕ) → r < n
         → filter (λ s. extends s (r ∷ j)) (flat_map (begun b k) (falling n))
@@ -167,12 +179,20 @@ only b k r j n low = go n low
     go (suc m) low = elim (cases_Bool (eqb m r)) [
       | inl a ↦
           let e = eqb-true m r a in
-          filter-append (λ s. extends s (r ∷ j)) (begun b k m) (flat_map (begun b k) (falling m)) ∙ ap₂ (λ u v. u ++ v)
-          (ap (λ z. filter (λ s. extends s (r ∷ j)) (begun b k z)) e ∙ own) (past m (omega arith)) ∙ append-nil _
+          cc (
+            filter-append (λ s. extends s (r ∷ j)) (begun b k m) (flat_map (begun b k) (falling m)),
+            e,
+            own,
+            past m (omega arith),
+            append-nil _,
+          )
       | inr a ↦
           let ne : m ≢ r = λ z. let w = eq-eqb m r z in absurd (cc (w, a)) in
-          filter-append (λ s. extends s (r ∷ j)) (begun b k m) (flat_map (begun b k) (falling m)) ∙ ap₂ (λ u v. u ++ v)
-          (other m ne) (go m (omega arith))
+          cc (
+            filter-append (λ s. extends s (r ∷ j)) (begun b k m) (flat_map (begun b k) (falling m)),
+            other m ne,
+            go m (omega arith),
+          )
     ]
 
 -- each row is below b
@@ -186,11 +206,12 @@ pub beginning : (b k : ℕ) (r : ℕ) (j : List ℕ) → Ranged b (r ∷ j)
 unfolding lists
 beginning b k r [] h =
     let e : 0 + k ≡ k = omega arith in
-    only b (0 + k) r [] b h.0 ∙ ap (map (λ s. r ∷ s)) (filter-all ([] ∷ lists b (0 + k))) ∙ ap
-    (λ n. map (λ s. r ∷ s) ([] ∷ lists b n)) e
+    cc (only b (0 + k) r [] b h.0, filter-all ([] ∷ lists b (0 + k)), e)
 beginning b k r (q ∷ j) h =
     let e : suc (length j) + k ≡ suc (length j + k) = omega arith in
-    only b (suc (length j) + k) r (q ∷ j) b h.0
-    ∙ ap (λ n. map (λ s. r ∷ s) (filter (λ s. extends s (q ∷ j)) (lists b n))) e
-    ∙ ap (map (λ s. r ∷ s)) (beginning b k q j h.1)
-    ∙ map-map (λ s. r ∷ s) (λ s. (q ∷ j) ++ s) ([] ∷ lists b k)
+    cc (
+      only b (suc (length j) + k) r (q ∷ j) b h.0,
+      e,
+      beginning b k q j h.1,
+      map-map (λ s. r ∷ s) (λ s. (q ∷ j) ++ s) ([] ∷ lists b k),
+    )

@@ -19,20 +19,22 @@ use Rattle.fx_tree.proofs.Inside.{filter-and, through-same}
 
 pub filter-all : (E : List ℕ → Bool) (xs : List (List ℕ)) → AllByRecursion (λ y. E y ≡ true) xs → filter E xs ≡ xs
 filter-all E [] h = refl
-filter-all E (y ∷ ys) h = cond-true (E y) _ _ h.0 ∙ ap (λ l. y ∷ l) (filter-all E ys h.1)
+filter-all E (y ∷ ys) h = cc (cond-true (E y) _ _ h.0, filter-all E ys h.1)
 
 -- Of the items through the first that passes D, those that pass E, where each D before an E is an E.
 pub block : (E D C : List ℕ → Bool) (xs : List (List ℕ)) → Sorted xs → ((y : List ℕ) → D y ≡ true → C y ≡ true)
     → ((d y : List ℕ) → D d ≡ true → before d y ≡ true → E y ≡ true → E d ≡ true)
     → filter E (through D (filter C xs)) ≡ through D (filter (λ y. E y && C y) xs)
 block E D C xs sorted inside near =
-    ap (filter E) (sym (cut D C inside F xs sorted (each-all _ xs (λ y. refl))))
-    ∙ sym (filter-and (λ y. C y && not (F y)) E xs)
-    ∙ filter_agree_each (λ y. (C y && not (F y)) && E y) (λ y. (E y && C y) && not (F' y)) xs (each-all _ xs agree)
-    ∙ cut (λ y. D y && E y) (λ y. E y && C y)
-    (λ y h. let k = and_parts (D y) (E y) h in and_from _ _ k.1 (inside y k.0)) F' xs sorted
-    (each-all _ xs (λ y. refl))
-    ∙ through-same (λ y. D y && E y) D (λ y. E y && C y) (λ y h. unit (D y) (E y) (and_parts (E y) (C y) h).0) xs
+    cc (
+      cut D C inside F xs sorted (each-all _ xs (λ y. refl)),
+      filter-and (λ y. C y && not (F y)) E xs,
+      filter_agree_each (λ y. (C y && not (F y)) && E y) (λ y. (E y && C y) && not (F' y)) xs (each-all _ xs agree),
+      cut (λ y. D y && E y) (λ y. E y && C y)
+          (λ y h. let k = and_parts (D y) (E y) h in and_from _ _ k.1 (inside y k.0)) F' xs sorted
+          (each-all _ xs (λ y. refl)),
+      through-same (λ y. D y && E y) D (λ y. E y && C y) (λ y h. unit (D y) (E y) (and_parts (E y) (C y) h).0) xs,
+    )
   where
     F : List ℕ → Bool
     F y = some_before D xs y
@@ -53,7 +55,7 @@ block E D C xs sorted inside near =
         list_any_agree (λ z. D z && before z y) (λ z. (D z && E z) && before z y) (λ z. elim (cases_Bool (D z)) [
           | inr out ↦ and_left _ _ out ∙ sym (and_left _ _ (and_left _ _ out))
           | inl holds ↦ elim (cases_Bool (before z y)) [
-            | inr late ↦ and_right _ _ late ∙ sym (and_right _ _ late)
+            | inr late ↦ cc (and_right _ _ late)
             | inl first ↦
                 and_from _ _ holds first ∙ sym (and_from _ _ (and_from _ _ holds (near z y holds first e)) first)
           ]
@@ -82,9 +84,8 @@ module _ (t : Tree) (law : IsTree t) (r : ℕ) (tail : List ℕ) (k : ℕ) (deep
       ∙ ap (λ l. filter (is_candidate t) (l ∷ map (λ s. front ++ s) (lists t.rows k))) (append-nil front)
       ∙ cond-true (is_candidate t front) _ _ candidate
       ∙ (elim (cases_Bool (t.allowed front)) [
-        | inl a ↦ ap (λ l. front ∷ l) (sym (cond-true (t.allowed front) (under t k front) [] a))
-        | inr a ↦ ap (λ l. front ∷ l)
-            (under-none t law k front (omega arith) a ∙ sym (cond-false (t.allowed front) (under t k front) [] a))
+        | inl a ↦ cc (cond-true (t.allowed front) (under t k front) [] a)
+        | inr a ↦ cc (under-none t law k front (omega arith) a, cond-false (t.allowed front) (under t k front) [] a)
       ])
 
 module _ (t : Tree) (law : IsTree t) (r : ℕ) (tail : List ℕ) (k : ℕ) (deep : length (r ∷ tail) + k ≡ t.size)
@@ -104,7 +105,7 @@ module _ (t : Tree) (law : IsTree t) (r : ℕ) (tail : List ℕ) (k : ℕ) (deep
       let long = full d h in
       elim (cases_Bool (extends d c)) [
         | inl own ↦ own
-        | inr out ↦ absurd (none d h (sym (before-apart d c s.0 (omega arith) out) ∙ ap (before d) (sym s.1) ∙ first))
+        | inr out ↦ absurd (none d h (cc (before-apart d c s.0 (omega arith) out, s.1, first)))
       ]
 
   abbrev walked-nodes : List (List ℕ)
@@ -114,11 +115,12 @@ module _ (t : Tree) (law : IsTree t) (r : ℕ) (tail : List ℕ) (k : ℕ) (deep
   pub nodes-from : filter (λ y. extends y c) walked-nodes ≡ through (is_tree_design t) (subtree t k c)
   unfolding under
   nodes-from =
-      ap (λ l. filter (λ y. extends y c) (through (is_tree_design t) (filter (is_candidate t) l)))
-      (map-id (tree_prefixes t))
-      ∙ block (λ y. extends y c) (is_tree_design t) (is_candidate t) (tree_prefixes t) (lists-sorted t.rows t.size)
-      (design-candidate t law) near
-      ∙ ap (through (is_tree_design t)) (all-from t law r tail k deep ranged candidate)
+      cc (
+        map-id (tree_prefixes t),
+        block (λ y. extends y c) (is_tree_design t) (is_candidate t) (tree_prefixes t) (lists-sorted t.rows t.size)
+            (design-candidate t law) near,
+        all-from t law r tail k deep ranged candidate,
+      )
 
   under-longer : AllByRecursion (λ y. ltb (length c) (length y) ≡ true) (map (λ s. c ++ s) (lists t.rows k))
   under-longer =
@@ -143,24 +145,22 @@ module _ (t : Tree) (law : IsTree t) (r : ℕ) (tail : List ℕ) (k : ℕ) (deep
   unfolding under
   nodes-below open' part =
       let E : List ℕ → Bool = λ y. extends y c && ltb (length c) (length y) in
-      ap (λ l. filter E (through (is_tree_design t) (filter (is_candidate t) l))) (map-id (tree_prefixes t))
-      ∙ block E (is_tree_design t) (is_candidate t) (tree_prefixes t) (lists-sorted t.rows t.size)
-      (design-candidate t law)
-      (λ d y h first e. let long = full d h in
-      and_from _ _ (near d y h first (and_parts (extends y c) (ltb (length c) (length y)) e).0)
-      (lt-ltb _ _ (omega arith)))
-      ∙ ap (through (is_tree_design t)) (
-      filter_agree_each (λ y. E y && is_candidate t y)
-      (λ y. (extends y c && is_candidate t y) && ltb (length c) (length y))
-      (tree_prefixes t)
-      (each-all _ (tree_prefixes t) (λ y. swap (extends y c) (ltb (length c) (length y)) (is_candidate t y)))
-      ∙ filter-and (λ y. extends y c && is_candidate t y) (λ y. ltb (length c) (length y)) (tree_prefixes t)
-      ∙ ap (filter (λ y. ltb (length c) (length y)))
-      (all-from t law r tail k deep ranged candidate ∙ ap (λ l. c ∷ l)
-      (cond-true (t.allowed c) (under t k c) [] open'))
-      ∙ cond-false (ltb (length c) (length c)) _ _ (le-ltb (length c) (length c) (omega arith))
-      ∙ filter-all (λ y. ltb (length c) (length y)) (under t k c)
-      (longer-kept (map (λ s. c ++ s) (lists t.rows k)) under-longer))
+      cc (
+        map-id (tree_prefixes t),
+        block E (is_tree_design t) (is_candidate t) (tree_prefixes t) (lists-sorted t.rows t.size)
+            (design-candidate t law)
+            (λ d y h first e. let long = full d h in and_from _ _
+            (near d y h first (and_parts (extends y c) (ltb (length c) (length y)) e).0) (lt-ltb _ _ (omega arith))),
+        filter_agree_each (λ y. E y && is_candidate t y)
+            (λ y. (extends y c && is_candidate t y) && ltb (length c) (length y)) (tree_prefixes t)
+            (each-all _ (tree_prefixes t) (λ y. swap (extends y c) (ltb (length c) (length y)) (is_candidate t y))),
+        filter-and (λ y. extends y c && is_candidate t y) (λ y. ltb (length c) (length y)) (tree_prefixes t),
+        all-from t law r tail k deep ranged candidate,
+        cond-true (t.allowed c) (under t k c) [] open',
+        cond-false (ltb (length c) (length c)) _ _ (le-ltb (length c) (length c) (omega arith)),
+        filter-all (λ y. ltb (length c) (length y)) (under t k c)
+            (longer-kept (map (λ s. c ++ s) (lists t.rows k)) under-longer),
+      )
     where
       swap : (a b c : Bool) → ((a && b) && c) ≡ ((a && c) && b)
       swap true b true = elim b as (λ z. (z && true) ≡ z) [ true ↦ refl | false ↦ refl ]

@@ -1,6 +1,6 @@
 -- The patterns of prefixes are ordered, and grow along a prefix; the prefixes of a problem make a ranked tree.
 use Rattle.std.proofs.Common.{◌≡◌, ℕ, suc, ◌<◌, ◌≤◌, ◌+◌, ◌^◌, true, false, not, ◌&&◌, ltb, List, [], ◌∷◌, ◌++◌, length}
-use Rattle.std.proofs.Common.{take, slice_index, refl, sym, subst, ap, ap₂, ◌∙◌, inl, inr, arith, append_assoc}
+use Rattle.std.proofs.Common.{take, slice_index, refl, sym, ap, ◌∙◌, inl, inr, arith, append_assoc}
 use Rattle.std.proofs.Common.{append-nil}
 use Rattle.std.specs.List.{list_all}
 use Rattle.std.proofs.lemmas.Bool.{cases_Bool, and_parts, and_left, and_right, or_from, le-ltb, ltb-true}
@@ -57,12 +57,12 @@ module _ (p : Problem) (f : IsField p.dimensions.q) where
   -- the pattern of a prefix is not greater than that of what extends it
   pub longer : (rows s : List ℕ) → is_less (pattern (rows ++ s)) (pattern rows) ≡ false
   longer rows [] =
-      subst (λ l. is_less (pattern l) (pattern rows) ≡ false) (sym (append-nil rows)) (less-self (pattern rows))
+      rw (append-nil rows) (less-self (pattern rows))
   longer rows (r ∷ s) =
       let up : is_less (pattern ((rows ++ r ∷ []) ++ s)) (pattern (rows ++ r ∷ [])) ≡ false =
       longer (rows ++ r ∷ []) s in
-      subst (λ l. is_less (pattern l) (pattern rows) ≡ false) (append_assoc rows (r ∷ []) s)
-      (not_above (pattern ((rows ++ r ∷ []) ++ s)) (pattern (rows ++ r ∷ [])) (pattern rows)
+      rw (append_assoc rows (r ∷ []) s) at (not_above (pattern ((rows ++ r ∷ []) ++ s)) (pattern (rows ++ r ∷ []))
+      (pattern rows)
       (long ((rows ++ r ∷ []) ++ s) (rows ++ r ∷ [])) up (one-longer p.dimensions f p.requirement rows r))
 
   pub is-ranked : IsRanked (ranked p)
@@ -74,7 +74,7 @@ module _ (p : Problem) (f : IsField p.dimensions.q) where
         (λ k. clash (is_less (pattern a) (pattern a)) (less-trans (pattern a) (pattern b) (pattern a) h k)
         (less-self (pattern a)));
     apart = λ a b c h k. elim (less-either (pattern c) (pattern b) (long c b) k) [
-      | inl e ↦ subst (λ z. is_less (pattern a) z ≡ true) e h
+      | inl e ↦ rw e at h
       | inr e ↦ less-trans (pattern a) (pattern b) (pattern c) h e
     ];
     longer = longer;
@@ -84,22 +84,21 @@ module _ (p : Problem) (f : IsField p.dimensions.q) where
 pub counts-same : (p : Problem) (d rows : List ℕ) → counts p.dimensions d rows ≡ counts_for (ranked p) d rows
 counts-same p d rows =
     elim (cases_Bool (before d rows)) [
-      | inr out ↦ and_left _ _ out ∙ sym (and_left _ _ out)
+      | inr out ↦ cc (and_left _ _ out)
       | inl first ↦ ap (λ b. before d rows && not b) (elim (cases_lt m (length rows)) [
         | inr short ↦
             and_left _ _ (le-ltb m (length rows) short) ∙ sym
             (and_left _ _ (lt-leb (m + 1 + 1) (length rows) (omega arith)))
         | inl some ↦ elim (cases_lt (m + 1) (length rows)) [
           | inl more ↦
-              ap₂ (λ a b. a && b) (lt-ltb m (length rows) some ∙ sym (le-leb (m + 1 + 1) (length rows) (omega arith)))
-              (ap (λ n. same (take (m + 1) d) (take (m + 1) rows) && not (same (take n d) (take n rows))) plus)
+              cc (lt-ltb m (length rows) some, le-leb (m + 1 + 1) (length rows) (omega arith), plus)
           | inr lot ↦
               let whole : take (m + 1) rows ≡ rows = take_all (m + 1) rows (omega arith) in
               let apart : same (take (m + 1) d) (take (m + 1) rows) ≡ false =
               false_from_ne_true _
               (λ e. clash (before d rows) first
               (extends-not_before d rows
-              (take-same (m + 1) d rows (subst (λ l. same (take (m + 1) d) l ≡ true) whole e)))) in
+              (take-same (m + 1) d rows (rw whole at e)))) in
               and_right _ _ (and_left _ _ apart) ∙ sym (and_left _ _ (lt-leb (m + 1 + 1) (length rows) (omega arith)))
         ]
       ])

@@ -31,27 +31,27 @@ extends-append (a ∷ p) s = and_from _ _ (eq-eqb a a refl) (extends-append p s)
 
 pub extends-shift : (p s t : List ℕ) → extends (p ++ s) (p ++ t) ≡ extends s t
 extends-shift [] s t = refl
-extends-shift (a ∷ p) s t = ap (λ b. b && extends (p ++ s) (p ++ t)) (eq-eqb a a refl) ∙ extends-shift p s t
+extends-shift (a ∷ p) s t = cc (eq-eqb a a refl, extends-shift p s t)
 
 pub extends-less : (d p t : List ℕ) → extends d p ≡ false → extends d (p ++ t) ≡ false
 extends-less d [] t h = absurd (cc h)
 extends-less [] (b ∷ q) t h = refl
 extends-less (a ∷ d) (b ∷ q) t h =
     elim (cases_Bool (eqb a b)) [
-      | inl e ↦ and_right _ _ (extends-less d q t (ap (λ z. z && extends d q) (sym e) ∙ h))
+      | inl e ↦ and_right _ _ (extends-less d q t (cc (e, h)))
       | inr e ↦ and_left _ _ e
     ]
 
 pub before-shift : (p x y : List ℕ) → before (p ++ x) (p ++ y) ≡ before x y
 before-shift [] x y = refl
 before-shift (a ∷ p) x y =
-    ap₂ (λ u v. u || (v && before (p ++ x) (p ++ y))) (le-ltb a a (omega arith)) (eq-eqb a a refl) ∙ before-shift p x y
+    cc (le-ltb a a (omega arith), eq-eqb a a refl, before-shift p x y)
 
 pub before-longer : (d p : List ℕ) (t : List ℕ) → before d p ≡ true → before d (p ++ t) ≡ true
-before-longer d p [] h = subst (λ l. before d l ≡ true) (sym (append-nil p)) h
+before-longer d p [] h = rw (append-nil p) h
 before-longer d p (b ∷ t) h =
     let e : before p (p ++ b ∷ t) ≡ true =
-    ap (λ l. before l (p ++ b ∷ t)) (sym (append-nil p)) ∙ before-shift p [] (b ∷ t) in
+    cc (append-nil p, before-shift p [] (b ∷ t)) in
     before-trans d p (p ++ b ∷ t) h e
 
 pub extends-not_before : (d p : List ℕ) → extends d p ≡ true → before d p ≡ false
@@ -65,9 +65,8 @@ before-apart d [] t low h = absurd (cc h)
 before-apart [] (b ∷ q) t low h = absurd (omega arith)
 before-apart (a ∷ d) (b ∷ q) t low h =
     elim (cases_Bool (eqb a b)) [
-      | inl e ↦ ap (λ z. ltb b a || (eqb a b && z))
-          (before-apart d q t (omega arith) (ap (λ z. z && extends d q) (sym e) ∙ h))
-      | inr e ↦ ap (λ z. ltb b a || (z && before d (q ++ t))) e ∙ ap (λ z. ltb b a || (z && before d q)) (sym e)
+      | inl e ↦ cc (before-apart d q t (omega arith) (ap (λ z. z && extends d q) (sym e) ∙ h))
+      | inr e ↦ cc e
     ]
 
 pub take-same : (k : ℕ) (d p : List ℕ) → same (take k d) p ≡ true → extends d p ≡ true
@@ -83,11 +82,10 @@ below-all q zero i h = absurd (omega arith)
 below-all q (suc n) i h =
     elim (cases_Bool (q n)) [
       | inl a ↦ let e : filter q (falling (suc n)) ≡ n ∷ filter q (falling n) = cond-true (q n) _ _ a in
-          subst (λ l. get_or l i 0 < suc n) (sym e) (go i (subst (λ l. i < length l) e h) (below-all q n))
+          rw e (go i (subst (λ l. i < length l) e h) (below-all q n))
       | inr a ↦ let e : filter q (falling (suc n)) ≡ filter q (falling n) = cond-false (q n) _ _ a in let z =
-          below-all q n i (subst (λ l. i < length l) e h) in
-          subst (λ l. get_or l i 0 < suc n) (sym e)
-          (let w : get_or (filter q (falling n)) i 0 < suc n = omega arith in w)
+          below-all q n i (rw e at h) in
+          rw e (let w : get_or (filter q (falling n)) i 0 < suc n = omega arith in w)
     ]
   where
     go : (i : ℕ) → i < length (n ∷ filter q (falling n))
@@ -106,13 +104,11 @@ falling-any q r on (suc n) i low h =
     elim (cases_Bool (q n)) [
       | inl a ↦
           let e : filter q (falling (suc n)) ≡ n ∷ filter q (falling n) = cond-true (q n) _ _ a in
-          subst (λ l. list_any (hits r) (take i l) ≡ ltb (get_or l i 0) r) (sym e)
-          (go i (subst (λ l. i < length l) e h) (λ j k m. falling-any q r on n j k m))
+          rw e (go i (subst (λ l. i < length l) e h) (λ j k m. falling-any q r on n j k m))
       | inr a ↦
           let e : filter q (falling (suc n)) ≡ filter q (falling n) = cond-false (q n) _ _ a in
           let ne : r ≢ n = λ z. let w = ap q (sym z) ∙ on in absurd (cc (w, a)) in
-          subst (λ l. list_any (hits r) (take i l) ≡ ltb (get_or l i 0) r) (sym e)
-          (falling-any q r on n i (omega arith) (subst (λ l. i < length l) e h))
+          rw e (falling-any q r on n i (omega arith) (subst (λ l. i < length l) e h))
     ]
   where
     go : (i : ℕ) → i < length (n ∷ filter q (falling n))
@@ -126,8 +122,7 @@ falling-any q r on (suc n) i low h =
           let e = eqb-true r n a in
           or_left _ _ (and_from _ _ a refl) ∙ sym (lt-ltb _ _ (omega arith))
       | inr a ↦ let ne : r ≢ n = λ z. let w = eq-eqb r n z in absurd (cc (w, a)) in
-          ap (λ b. (b && true) || list_any (hits r) (take i (filter q (falling n)))) a ∙ rest i (omega arith)
-          (omega arith)
+          cc (a, rest i (omega arith) (omega arith))
     ]
 
 pub falling-all : (q : ℕ → Bool) (r n : ℕ) → q r ≡ true → r < n → list_any (hits r) (filter q (falling n)) ≡ true
@@ -143,7 +138,7 @@ falling-all q r (suc n) on low =
           ])
       | inr a ↦
           let ne : r ≢ n = λ z. let w = ap q (sym z) ∙ on in absurd (cc (w, a)) in
-          ap (list_any (hits r)) (cond-false (q n) (n ∷ filter q (falling n)) _ a) ∙ falling-all q r n on (omega arith)
+          cc (cond-false (q n) (n ∷ filter q (falling n)) _ a, falling-all q r n on (omega arith))
     ]
 
 pub any-never : {X : Type 0} (f : X → Bool) → ((x : X) → f x ≡ false) → (xs : List X) → list_any f xs ≡ false
@@ -177,14 +172,14 @@ module _ (x : Ranked) (law : IsRanked x) (p : List ℕ) (part : length p < x.tre
           let can = (and_parts (x.tree.canonical d) (x.tree.allowed d)
           (and_parts (eqb (length d) x.tree.size) (x.tree.canonical d && x.tree.allowed d) h).1).0 in
           let w : x.tree.canonical ((p ++ r ∷ []) ++ s) ≡ true =
-          subst (λ l. x.tree.canonical l ≡ true) (z ∙ sym (append_assoc p (r ∷ []) s)) can in
+          rw (z ∙ sym (append_assoc p (r ∷ []) s)) at can in
           (r, s, z, closed-append x.tree.canonical law.tree.canonical (p ++ r ∷ []) s w)
 
   pub child_of : (d : List ℕ) (r : ℕ) (s : List ℕ) → d ≡ p ++ r ∷ s → (rs : List ℕ)
       → of_child rs d ≡ list_any (hits r) rs
   child_of d r s z rs =
       list_any_agree (λ j. extends d (p ++ j ∷ [])) (hits r)
-      (λ j. ap (λ l. extends l (p ++ j ∷ [])) z ∙ extends-shift p (r ∷ s) (j ∷ [])) rs
+      (λ j. cc (z, extends-shift p (r ∷ s) (j ∷ []))) rs
 
   -- at the end every design from p on has been seen
   pub all_children : (d : List ℕ)
@@ -192,8 +187,7 @@ module _ (x : Ranked) (law : IsRanked x) (p : List ℕ) (part : length p < x.tre
   all_children d =
       elim (cases_Bool (is_tree_design x.tree d)) [
         | inr out ↦
-            ap (λ b. is_counted x p d || (b && extends d p)) out ∙ sym
-            (ap (λ b. is_counted x p d || (b && of_child rows d)) out)
+            cc out
         | inl h ↦ ap (λ b. is_counted x p d || (is_tree_design x.tree d && b)) (elim (cases_Bool (extends d p)) [
           | inl e ↦ let k = goes_on d h e in
               e ∙ sym (child_of d k.0 k.1 k.2 rows ∙ falling-all (λ r. x.tree.canonical (p ++ r ∷ [])) k.0 x.tree.rows
@@ -225,11 +219,14 @@ module _ (x : Ranked) (law : IsRanked x) (p : List ℕ) (part : length p < x.tre
                     child_of d k.0 k.1 k.2 (take i rows) ∙ falling-any (λ j. x.tree.canonical (p ++ j ∷ [])) k.0 k.3
                     x.tree.rows i (law.ranged p k.0 k.3) low in
                     let here : before d (p ++ r ∷ []) ≡ ltb r k.0 =
-                    ap (λ l. before l (p ++ r ∷ [])) k.2 ∙ before-shift p (k.0 ∷ k.1) (r ∷ []) ∙ plain (ltb r k.0)
-                    (eqb k.0 r) in
+                    cc (k.2, before-shift p (k.0 ∷ k.1) (r ∷ []), plain (ltb r k.0) (eqb k.0 r)) in
                     let job_same : same (take (x.lot + 1) d) (take (x.lot + 1) (p ++ r ∷ [])) ≡ true =
-                    ap₂ same (ap (take (x.lot + 1)) k.2 ∙ take-append-le (x.lot + 1) p (k.0 ∷ k.1) (omega arith))
-                    (take-append-le (x.lot + 1) p (r ∷ []) (omega arith)) ∙ same-self (take (x.lot + 1) p) in
+                    cc (
+                      k.2,
+                      take-append-le (x.lot + 1) p (k.0 ∷ k.1) (omega arith),
+                      take-append-le (x.lot + 1) p (r ∷ []) (omega arith),
+                      same-self (take (x.lot + 1) p),
+                    ) in
                     let free : not
                     (leb (x.lot + 1) (length (p ++ r ∷ []))
                     && (same (take x.lot d) (take x.lot (p ++ r ∷ []))
@@ -241,13 +238,13 @@ module _ (x : Ranked) (law : IsRanked x) (p : List ℕ) (part : length p < x.tre
                     let none : of_child (take i rows) d ≡ false =
                     any-never (λ j. extends d (p ++ j ∷ [])) (λ j. extends-less d p (j ∷ []) e) (take i rows) in
                     let same_counts : counts_for x d (p ++ r ∷ []) ≡ counts_for x d p =
-                    ap₂ (λ u v. u && not v) (before-apart d p (r ∷ []) (omega arith) e)
-                    (ap₂ (λ u v. u && v)
-                    (le-leb (x.lot + 1) (length (p ++ r ∷ [])) (omega arith) ∙ sym
-                    (le-leb (x.lot + 1) (length p) (omega arith)))
-                    (ap₂ (λ u v. same (take x.lot d) u && not (same (take (x.lot + 1) d) v))
-                    (take-append-le x.lot p (r ∷ []) (omega arith))
-                    (take-append-le (x.lot + 1) p (r ∷ []) (omega arith)))) in
+                    cc (
+                      before-apart d p (r ∷ []) (omega arith) e,
+                      le-leb (x.lot + 1) (length (p ++ r ∷ [])) (omega arith),
+                      le-leb (x.lot + 1) (length p) (omega arith),
+                      take-append-le x.lot p (r ∷ []) (omega arith),
+                      take-append-le (x.lot + 1) p (r ∷ []) (omega arith),
+                    ) in
                     same_counts ∙ sym
                     (ap₂ (λ a b. (a && counts_for x d p) || (a && b)) h none ∙ or-false (counts_for x d p))
               ])

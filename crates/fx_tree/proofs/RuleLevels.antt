@@ -34,13 +34,14 @@ module _ (q : ℕ) (f : IsField q) where
   drop_unit (suc m) zero (a ∷ p) h low =
       let value : add q (mul q 1 a) (dot q (zeros m) p) ≡ a =
       rw (dot-zeros q f m p, f.mul_comm 1 a, f.mul_one a h.codes.0) (f.add_zero a h.codes.0) in
-      ap (λ (x : ℕ). x ∷ p) (sym value)
+      cc value
   drop_unit (suc m) (suc k) (a ∷ p) h low =
       let own : add q (mul q 0 a) (dot q (unit m k) p) ≡ dot q (unit m k) p =
-      ap (λ x. add q x (dot q (unit m k) p)) (zero-mul q f a)
-      ∙ zero-add-code q f (dot q (unit m k) p) (dot_code q f (unit m k) p) in
-      drop_unit m k p (record { len = (let e = h.len in omega arith); codes = h.codes.1 }) (omega (arith, low))
-      ∙ ap (λ (x : ℕ). x ∷ drop (suc k) p) (sym own)
+      cc (zero-mul q f a, zero-add-code q f (dot q (unit m k) p) (dot_code q f (unit m k) p)) in
+      cc (
+        drop_unit m k p (record { len = (let e = h.len in omega arith); codes = h.codes.1 }) (omega (arith, low)),
+        own,
+      )
 
   -- a vector that has only zeros from place k on needs no more than k codes
   zero_short : (v p : List ℕ) → IsShort zero v → dot q v p ≡ 0
@@ -61,17 +62,17 @@ module _ (q : ℕ) (f : IsField q) where
     | inl is ↦
         let up = counts_up (k + 1) rows in
         let here : introduced q (if row == q ^ k then k + 1 else k) rows ≡ introduced q (k + 1) rows =
-        ap (λ b. introduced q (if b then k + 1 else k) rows) is in
+        cc is in
         omega (arith, up, here)
     | inr other ↦
         let up = counts_up k rows in
         let here : introduced q (if row == q ^ k then k + 1 else k) rows ≡ introduced q k rows =
-        ap (λ b. introduced q (if b then k + 1 else k) rows) other in
+        cc other in
         omega (arith, up, here)
   ]
 
   nothing_taken : (k : ℕ) (xs : List ℕ) → take (k - k) xs ≡ []
-  nothing_taken k xs = (let none : k - k ≡ 0 = omega arith in ap (λ n. take n xs) none)
+  nothing_taken k xs = (let none : k - k ≡ 0 = omega arith in cc none)
 
   -- the levels of the introducing rows are the run indexes that they introduce
   indexes : (m k : ℕ) (rows p : List ℕ) → IsVector q m p → introduced q k rows ≤ m
@@ -83,36 +84,42 @@ module _ (q : ℕ) (f : IsField q) where
         let last : ℕ = introduced q (k + 1) rows in
         let up = counts_up (k + 1) rows in
         let here : introduced q (if row == q ^ k then k + 1 else k) rows ≡ last =
-        ap (λ b. introduced q (if b then k + 1 else k) rows) is in
+        cc is in
         let room : k < m = omega (arith, up, here, fits) in
         let level : dot q (digits q m row) p ≡ dot q (unit m k) p =
-        ap (λ v. dot q v p) (ap (digits q m) (eqb-true row (q ^ k) is) ∙ digits-unit q m k f room) in
+        cc (eqb-true row (q ^ k) is, digits-unit q m k f room) in
         let rest = indexes m (k + 1) rows p h (omega (arith, here, fits)) in
         let next : k + 1 ≡ suc k = omega arith in
         let more : last - k ≡ suc (last - (k + 1)) = omega (arith, up) in
-        cond-true (row == q ^ k) (dot q (digits q m row) p ∷ introducing q (k + 1) rows levels)
-        (introducing q k rows levels) is
-        ∙ ap (λ (x : ℕ). x ∷ introducing q (k + 1) rows levels) level
-        ∙ ap (λ (l : List ℕ). dot q (unit m k) p ∷ l) (rest ∙ ap (λ n. take (last - (k + 1)) (drop n p)) next)
-        ∙ sym (ap (λ n. take (n - k) (drop k p)) here ∙ ap (take (last - k)) (drop_unit m k p h room)
-        ∙ ap (λ n. take n (dot q (unit m k) p ∷ drop (suc k) p)) more)
+        cc (
+          cond-true (row == q ^ k) (dot q (digits q m row) p ∷ introducing q (k + 1) rows levels)
+              (introducing q k rows levels) is,
+          level,
+          rest,
+          next,
+          here,
+          drop_unit m k p h room,
+          more,
+        )
     | inr other ↦
         let levels : List ℕ = levels_at q (vectors_of q m rows) p in
         let here : introduced q (if row == q ^ k then k + 1 else k) rows ≡ introduced q k rows =
-        ap (λ b. introduced q (if b then k + 1 else k) rows) other in
-        cond-false (row == q ^ k) (dot q (digits q m row) p ∷ introducing q (k + 1) rows levels)
-        (introducing q k rows levels) other
-        ∙ indexes m k rows p h (omega (arith, here, fits))
-        ∙ sym (ap (λ n. take (n - k) (drop k p)) here)
+        cc other in
+        cc (
+          cond-false (row == q ^ k) (dot q (digits q m row) p ∷ introducing q (k + 1) rows levels)
+              (introducing q k rows levels) other,
+          indexes m k rows p h (omega (arith, here, fits)),
+          here,
+        )
   ]
 
   first_indexes : (m : ℕ) (rows p : List ℕ) → IsVector q m p → introduced q 0 rows ≤ m
       → introducing q 0 rows (levels_at q (vectors_of q m rows) p) ≡ take (introduced q 0 rows) p
   first_indexes m rows p h fits =
       let all : introduced q 0 rows - 0 ≡ introduced q 0 rows = omega arith in
-      indexes m 0 rows p h fits ∙ ap (λ n. take n p) all
+      cc (indexes m 0 rows p h fits, all)
 
-  ruled : (m : ℕ) (rows : List ℕ) (row : ℕ) (p : List ℕ) → IsVector q m p → introduced q 0 rows ≤ m
+  pub ruled : (m : ℕ) (rows : List ℕ) (row : ℕ) (p : List ℕ) → IsVector q m p → introduced q 0 rows ≤ m
       → row < q ^ introduced q 0 rows
       → dot q (digits q m row) (introducing q 0 rows (levels_at q (vectors_of q m rows) p)) ≡ dot q (digits q m row) p
   ruled m rows row p h fits low =
@@ -120,8 +127,10 @@ module _ (q : ℕ) (f : IsField q) where
       let v : List ℕ = digits q m row in
       let wide : q ^ last ≤ q ^ m = pow-le-pow_right some fits in
       let named : number q v ≡ row = number-digits q m row some (omega (arith, low, wide)) in
-      ap (dot q v) (first_indexes m rows p h fits)
-      ∙ dot_short last v p (number-short q m last f v (digits-vector q m row some) (omega (arith, low, named)))
+      cc (
+        first_indexes m rows p h fits,
+        dot_short last v p (number-short q m last f v (digits-vector q m row some) (omega (arith, low, named))),
+      )
 
   -- how many points begin with these codes
   beginning : (m n : ℕ) (c : List ℕ) → IsVector q n c → n ≤ m
@@ -140,12 +149,14 @@ module _ (q : ℕ) (f : IsField q) where
         | inl is ↦ rw is rest
         | inr other ↦ rw other (sum_by-zero (points q m))
       ] in
-      points-sum q m (λ p. cond (same (take (suc n) p) (a ∷ c)) 1 0)
-      ∙ sum_by-ext _ _ (codes_of q) at_code
-      ∙ sum_by-pick (λ x. q ^ (m - n)) a 0 q (omega arith) (omega (arith, h.codes.0))
-      ∙ ap (λ k. q ^ k) (sym less)
+      cc (
+        points-sum q m (λ p. cond (same (take (suc n) p) (a ∷ c)) 1 0),
+        sum_by-ext _ _ (codes_of q) at_code,
+        sum_by-pick (λ x. q ^ (m - n)) a 0 q (omega arith) (omega (arith, h.codes.0)),
+        less,
+      )
 
-  factorial : (m : ℕ) (rows c : List ℕ) → introduced q 0 rows ≤ m → IsVector q (introduced q 0 rows) c
+  pub factorial : (m : ℕ) (rows c : List ℕ) → introduced q 0 rows ≤ m → IsVector q (introduced q 0 rows) c
       → count_by (λ x. same (introducing q 0 rows x) c) (runs_of q m (vectors_of q m rows))
       ≡ q ^ (m - introduced q 0 rows)
   unfolding runs_of
@@ -155,7 +166,7 @@ module _ (q : ℕ) (f : IsField q) where
       let n = introduced q 0 rows in
       let here : (p : List ℕ) → IsVector q m p
       → count (same (introducing q 0 rows (levels p)) c) ≡ count (same (take n p) c) =
-      λ p hp. ap (λ l. count (same l c)) (first_indexes m rows p hp fits) in
+      λ p hp. cc (first_indexes m rows p hp fits) in
       sum_by_map (λ x. count (same (introducing q 0 rows x) c)) levels (points q m)
       ∙ sum_by-each (λ p. count (same (introducing q 0 rows (levels p)) c)) (λ p. count (same (take n p) c))
       (points q m)

@@ -1,14 +1,12 @@
 -- The tree that a search walks: its nodes and marks are those of the problem, with a least pattern and without.
-use Rattle.std.proofs.Common.{◌≡◌, ℕ, ◌+◌, Bool, true, false, not, ◌&&◌, ◌||◌, cond, eqb, ltb, List, [], ◌∷◌, ◌++◌, map}
-use Rattle.std.proofs.Common.{length, refl, sym, ap, ap₂, ◌∙◌, inl, inr, arith, map-id}
-use Rattle.std.specs.List.{filter}
+use Rattle.std.proofs.Common.{◌≡◌, ℕ, ◌+◌, Bool, true, false, not, ◌&&◌, ◌||◌, eqb, List, [], ◌∷◌, ◌++◌, map}
+use Rattle.std.proofs.Common.{length, refl, sym, ◌∙◌, inl, inr, arith, map-id}
 use Rattle.std.proofs.lemmas.Bool.{cond-true, cond-false, cases_Bool, and_left, and_right, or_left, eqb-true, le-ltb}
 use mathlib.Core.Bool.{and-true, and_assoc}
 use Rattle.fx_base.proofs.Lists.{each-all, filter_agree_each, map_agree, list_any_agree}
 use Rattle.fx_designs.specs.Galois.{IsField}
 use Rattle.fx_designs.specs.Problems.{Problem}
 use Rattle.fx_designs.specs.Demands.{is_allowed}
-use Rattle.fx_designs.specs.Canonical.{is_canonical}
 use Rattle.fx_designs.specs.Patterns.{pattern_of, is_less}
 use Rattle.fx_designs.specs.Answers.{before, prefixes, answer}
 use Rattle.fx_designs.specs.Nodes.{parent, counts, excludes, is_branch, is_complete_allowed, is_node, is_not_after}
@@ -27,7 +25,7 @@ use Rattle.fx_tree.proofs.Patterns.{is-ranked, counts-same}
 pub through-agree : (D E : List ℕ → Bool) → ((p : List ℕ) → D p ≡ E p) → (xs : List (List ℕ))
     → through D xs ≡ through E xs
 through-agree D E h [] = refl
-through-agree D E h (x ∷ xs) = ap₂ (λ b l. x ∷ cond b [] l) (h x) (through-agree D E h xs)
+through-agree D E h (x ∷ xs) = cc (h x, through-agree D E h xs)
 
 module _ (p : Problem) where
   -- below a branch, where a least pattern is asked
@@ -50,23 +48,21 @@ module _ (p : Problem) where
   -- a branch in either wording
   pub branch-ranked : p.least ≡ true → (rows : List ℕ) → is_branch p rows ≡ is_ranked_branch (ranked p) rows
   branch-ranked e rows =
-      ap (λ b. is_allowed p.dimensions p.requirement rows
-      && (ltb (length rows) (p.dimensions.s + p.dimensions.t) && not b))
-      (list_any_agree (λ matrix. is_complete_allowed p matrix && excludes p matrix rows)
+      cc (list_any_agree (λ matrix. is_complete_allowed p matrix && excludes p matrix rows)
       (λ d. is_counted (ranked p) rows d && not ((ranked p).less rows d)) one (prefixes p))
     where
       one : (d : List ℕ)
           → (is_complete_allowed p d && excludes p d rows)
           ≡ (is_counted (ranked p) rows d && not ((ranked p).less rows d))
       one d =
-          ap (λ b. is_complete_allowed p d && b)
-          (cond-true p.least
-          (counts p.dimensions d rows && not (is_less (pattern_of p.dimensions rows) (pattern_of p.dimensions d)))
-          (before d rows) e)
-          ∙ sym (and_assoc (is_complete_allowed p d) (counts p.dimensions d rows)
-          (not (is_less (pattern_of p.dimensions rows) (pattern_of p.dimensions d))))
-          ∙ ap (λ b. (is_complete_allowed p d && b)
-          && not (is_less (pattern_of p.dimensions rows) (pattern_of p.dimensions d))) (counts-same p d rows)
+          cc (
+            cond-true p.least
+                (counts p.dimensions d rows && not (is_less (pattern_of p.dimensions rows) (pattern_of p.dimensions d)))
+                (before d rows) e,
+            and_assoc (is_complete_allowed p d) (counts p.dimensions d rows)
+                (not (is_less (pattern_of p.dimensions rows) (pattern_of p.dimensions d))),
+            counts-same p d rows,
+          )
 
   -- where a least pattern is asked, no whole matrix is a branch
   pub no-design : p.least ≡ true → (d : List ℕ) → is_tree_design (search_tree p) d ≡ false
@@ -84,12 +80,11 @@ module _ (p : Problem) where
   -- where none is asked, the designs are the complete allowed matrices
   pub design-plain : p.least ≡ false → (d : List ℕ) → is_tree_design (search_tree p) d ≡ is_tree_design (tree_of p) d
   design-plain e d =
-      ap (λ b. eqb (length d) (p.dimensions.s + p.dimensions.t) && (is_canonical p.dimensions p.requirement d && b))
-      (opens-plain e d)
+      cc (opens-plain e d)
 
   pub candidate-plain : p.least ≡ false → (d : List ℕ) → is_candidate (search_tree p) d ≡ is_candidate (tree_of p) d
   candidate-plain e d =
-      ap (λ b. is_canonical p.dimensions p.requirement d && (eqb (length (parent d)) 0 || b)) (opens-plain e (parent d))
+      cc (opens-plain e (parent d))
 
   pub under-plain : p.least ≡ false → (k : ℕ) (c : List ℕ) → under (search_tree p) k c ≡ under (tree_of p) k c
   unfolding under
@@ -99,13 +94,11 @@ module _ (p : Problem) where
 
   candidate-least : p.least ≡ true → (rows : List ℕ) → is_node p rows ≡ is_candidate (search_tree p) rows
   candidate-least e rows =
-      ap (λ b. is_canonical p.dimensions p.requirement rows
-      && ((eqb (length (parent rows)) 0 || is_branch p (parent rows)) && b))
-      (or_left p.least (is_not_after (answer p) rows) e)
-      ∙ ap (λ b. is_canonical p.dimensions p.requirement rows && b)
-      (and-true (eqb (length (parent rows)) 0 || is_branch p (parent rows)))
-      ∙ ap (λ b. is_canonical p.dimensions p.requirement rows && (eqb (length (parent rows)) 0 || b))
-      (sym (opens-least e (parent rows)))
+      cc (
+        or_left p.least (is_not_after (answer p) rows) e,
+        and-true (eqb (length (parent rows)) 0 || is_branch p (parent rows)),
+        opens-least e (parent rows),
+      )
 
   module _ (f : IsField p.dimensions.q) where
     pub walked-law : IsTree (search_tree p)
@@ -114,7 +107,7 @@ module _ (p : Problem) where
       allowed = λ rows r h. elim (cases_Bool p.least) [
         | inl e ↦
             let here : is_ranked_branch (ranked p) (rows ++ r ∷ []) ≡ true =
-            sym (branch-ranked e (rows ++ r ∷ [])) ∙ sym (opens-least e (rows ++ r ∷ [])) ∙ h in
+            cc (branch-ranked e (rows ++ r ∷ []), opens-least e (rows ++ r ∷ []), h) in
             opens-least e rows ∙ branch-ranked e rows ∙ (branches_law (ranked p) (is-ranked p f)).allowed rows r here
         | inr e ↦ opens-plain e rows ∙ (is-tree p f).allowed rows r (sym (opens-plain e (rows ++ r ∷ [])) ∙ h)
       ];
@@ -126,15 +119,20 @@ module _ (p : Problem) where
     unfolding nodes under
     nodes-walked = elim (cases_Bool p.least) [
       | inl e ↦
-          filter_agree_each (is_node p) (is_candidate (search_tree p)) (prefixes p)
-          (each-all _ (prefixes p) (λ rows. candidate-least e rows))
-          ∙ ap (filter (is_candidate (search_tree p))) (sym (map-id (prefixes p)))
-          ∙ sym (through-none (is_tree_design (search_tree p)) _
-          (any-never (is_tree_design (search_tree p)) (λ d. no-design e d) _))
+          cc (
+            filter_agree_each (is_node p) (is_candidate (search_tree p)) (prefixes p)
+                (each-all _ (prefixes p) (λ rows. candidate-least e rows)),
+            map-id (prefixes p),
+            through-none (is_tree_design (search_tree p)) _
+                (any-never (is_tree_design (search_tree p)) (λ d. no-design e d) _),
+          )
       | inr e ↦
-          nodes-same p f e ∙ nodes_are (tree_of p) (is-tree p f)
-          ∙ ap (through (is_tree_design (tree_of p))) (sym (under-plain e (p.dimensions.s + p.dimensions.t) []))
-          ∙ sym (through-agree (is_tree_design (search_tree p)) (is_tree_design (tree_of p)) (λ d. design-plain e d) _)
+          cc (
+            nodes-same p f e,
+            nodes_are (tree_of p) (is-tree p f),
+            under-plain e (p.dimensions.s + p.dimensions.t) [],
+            through-agree (is_tree_design (search_tree p)) (is_tree_design (tree_of p)) (λ d. design-plain e d) _,
+          )
     ]
 
     -- and their marks
@@ -143,7 +141,10 @@ module _ (p : Problem) where
     marks-walked = elim (cases_Bool p.least) [
       | inl e ↦ map_agree (mark_of p) (search_mark p) (λ rows. sym (mark-least e rows)) (nodes p)
       | inr e ↦
-          marks-same p f e ∙ marks_are (tree_of p) (is-tree p f)
-          ∙ ap (map (mark_at (tree_of p))) (sym (nodes-same p f e))
-          ∙ map_agree (mark_at (tree_of p)) (search_mark p) (λ rows. sym (mark-plain e rows)) (nodes p)
+          cc (
+            marks-same p f e,
+            marks_are (tree_of p) (is-tree p f),
+            nodes-same p f e,
+            map_agree (mark_at (tree_of p)) (search_mark p) (λ rows. sym (mark-plain e rows)) (nodes p),
+          )
     ]

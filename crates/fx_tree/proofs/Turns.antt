@@ -1,6 +1,6 @@
 -- The jobs of a lot, one after another: each begins with the best of the earlier lots, and the better of all is kept.
 use Rattle.std.proofs.Common.{◌≡◌, ℕ, ◌<◌, ◌+◌, Bool, true, false, ◌&&◌, ◌||◌, ltb, List, [], ◌∷◌, ◌++◌, length, take}
-use Rattle.std.proofs.Common.{get_or, Option, Some, refl, sym, subst, ap, ◌∙◌, ◌⊎◌, inl, inr, ⊎_elim, append_assoc}
+use Rattle.std.proofs.Common.{get_or, Option, Some, refl, sym, ap, ◌∙◌, ◌⊎◌, inl, inr, ⊎_elim, append_assoc}
 use Rattle.std.specs.List.{list_any}
 use Rattle.std.proofs.lemmas.Bool.{cases_Bool, and_parts, or_left, or_right, or_cases}
 use Rattle.std.proofs.lemmas.List.{take_more}
@@ -41,8 +41,7 @@ module _ (x : Ranked) (law : IsRanked x) (p : List ℕ) (part : length p < x.tre
       late own =
           let s = split_of e (p ++ r ∷ []) (and_parts (is_tree_design x.tree e) (extends e (p ++ r ∷ [])) own).1 in
           let is : e ≡ p ++ r ∷ s.0 = s.1 ∙ append_assoc p (r ∷ []) s.0 in
-          subst (λ l. before d l ≡ true) (sym is)
-          (⊎_elim (λ old. first s.0 old) (λ more. between s.0 more) (or_cases (is_counted x p d) _ h))
+          rw is (⊎_elim (λ old. first s.0 old) (λ more. between s.0 more) (or_cases (is_counted x p d) _ h))
         where
           first : (t : List ℕ) → is_counted x p d ≡ true → before d (p ++ r ∷ t) ≡ true
           first t old =
@@ -65,8 +64,7 @@ module _ (x : Ranked) (law : IsRanked x) (p : List ℕ) (part : length p < x.tre
                     sym (child_of x law p part d k.0 k.1 k.2 (take i kids) ∙ falling-any
                     (λ j. x.tree.canonical (p ++ j ∷ [])) k.0 k.3 x.tree.rows i (law.ranged p k.0 k.3) low) ∙
                     parts.1 in
-                    subst (λ l. before l (p ++ r ∷ t) ≡ true) (sym k.2)
-                    (before-shift p (k.0 ∷ k.1) (r ∷ t) ∙ or_left _ _ low')
+                    rw k.2 (before-shift p (k.0 ∷ k.1) (r ∷ t) ∙ or_left _ _ low')
               ]
 
   -- after the job, the better of what was found before and of what it found
@@ -96,8 +94,7 @@ module _ (x : Ranked) (law : IsRanked x) (p : List ℕ) (part : length p < x.tre
           (job_seen x law p part at r d)
           ∙ regroup (is_counted x p d) (is_tree_design x.tree d) _ _
           ∙ ap (λ b. is_counted x p d || (is_tree_design x.tree d && b))
-          (sym (ap (list_any (λ r. extends d (p ++ r ∷ []))) (take_more kids i 0 low) ∙ any-push
-          (λ r. extends d (p ++ r ∷ [])) (take i kids) r))
+          (sym (cc (take_more kids i 0 low, any-push (λ r. extends d (p ++ r ∷ [])) (take i kids) r)))
 
   -- the same where the job tells its best only where it is better than one of the earlier lots
   pub improvement_joins : (start now own : Option (List ℕ)) → IsFirstLeast x seen_so now
@@ -125,7 +122,8 @@ module _ (x : Ranked) (law : IsRanked x) (p : List ℕ) (part : length p < x.tre
           → (seen_so d || (is_tree_design x.tree d && extends d (p ++ r ∷ [])))
           ≡ so_far x law p part (take (i + 1) kids) d
       agree d =
-          regroup (is_counted x p d) (is_tree_design x.tree d) _ _
-          ∙ ap (λ b. is_counted x p d || (is_tree_design x.tree d && b))
-          (sym (ap (list_any (λ r. extends d (p ++ r ∷ []))) (take_more kids i 0 low) ∙ any-push
-          (λ r. extends d (p ++ r ∷ [])) (take i kids) r))
+          cc (
+            regroup (is_counted x p d) (is_tree_design x.tree d) _ _,
+            take_more kids i 0 low,
+            any-push (λ r. extends d (p ++ r ∷ [])) (take i kids) r,
+          )

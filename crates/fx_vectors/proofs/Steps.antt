@@ -1,6 +1,6 @@
 -- One turn of each loop over the codes of a vector or the rows of a matrix.
 use Rattle.std.proofs.Common.{◌≡◌, ℕ, ◌<◌, ◌≤◌, ◌+◌, ◌*◌, ◌-◌, ◌/◌, ◌%◌, ◌^◌, ◌++◌, zero, suc, List, [], ◌∷◌, get_or}
-use Rattle.std.proofs.Common.{drop, take, length, arith, sym, ap, ◌∙◌, refl, add-one, lit<, append_assoc, drop-cons}
+use Rattle.std.proofs.Common.{drop, take, length, arith, ap, ◌∙◌, refl, add-one, lit<, append_assoc, drop-cons}
 use Rattle.std.proofs.Common.{Bool, true, false, cond, eqb}
 use Rattle.std.proofs.lemmas.List.{take_more}
 use Rattle.std.proofs.lemmas.Bool.Decides.{nat_tests}
@@ -23,7 +23,7 @@ pub dot_past : (q : ℕ) (f : IsField q) (v w : List ℕ) (i s d : ℕ) → leng
     → add q s (dot q (drop i v) (drop i w)) ≡ d → s ≡ d
 dot_past q f v w i s d past code e =
     let gone = drop_of_length-le v past in
-    sym (f.add_zero s code) ∙ ap (λ x. add q s (dot q x (drop i w))) (sym gone) ∙ e
+    cc (f.add_zero s code, gone, e)
 
 pub digits_more : (q n k rest : ℕ) (done : List ℕ) → k < n
     → (done ++ (rest % q) ∷ []) ++ digits q (n - (k + 1)) (rest / q) ≡ done ++ digits q (n - k) rest
@@ -90,8 +90,7 @@ pub sum_past : (q m : ℕ) (f : IsField q) (u rows : List ℕ) (i : ℕ) (s d : 
     → plus q s (combination q m (drop i u) (vectors_of q m (drop i rows))) ≡ d → s ≡ d
 sum_past q m f u rows i s d past vector e =
     let gone = drop_of_length-le u past in
-    sym (plus-zero q m f s vector) ∙ ap (λ x. plus q s (combination q m x (vectors_of q m (drop i rows)))) (sym gone) ∙
-    e
+    cc (plus-zero q m f s vector, gone, e)
 
 pub are_vectors : (q m : ℕ) (rows : List ℕ) → 0 < q → AreVectors q m (vectors_of q m rows)
 are_vectors q m [] some = tt

@@ -2,17 +2,16 @@ use Rattle.std.proofs.Common.{ℕ, ◌+◌, ◌^◌, ◌<◌, ◌≤◌, List, s
 use Rattle.std.specs.Prelude.{All}
 use Rattle.std.proofs.Math.Nat.{pow-le-pow_right}
 use Rattle.fx_designs.specs.Vectors.{IsVector}
-use Rattle.fx_demands.specs.EffectVectors.{vectors_to}
 use Rattle.fx_demands.proofs.EffectVectors.{all-vectors}
 use Rattle.fx_demands.proofs.vector_lists.effect_vectors.Goals as goal
 
 pub longer-requires-clause-vectors : goal.longer-requires-clause-vectors
 longer-requires-clause-vectors c =
-    let all : All (IsVector c.args.field c.loop-i.i) (vectors_to c.args.field c.args.effect.now.0 c.loop-i.i) =
+    let all =
     all-vectors c.args.field c.args.effect.now.0 c.loop-i.i
-    (omega (arith, c.q-known.ensures.least, c.q-known.ensures.order)) in
-    subst (λ (n : ℕ). All (IsVector c.args.field n) c.loop-i.vectors) (sym c.from.ensures)
-    (subst (λ (l : List (List ℕ)). All (IsVector c.args.field c.loop-i.i) l) (sym c.loop-i.invariant) all)
+    (omega arith) in
+    rw c.from.ensures (subst (λ (l : List (List ℕ)). All (IsVector c.args.field c.loop-i.i) l) (sym c.loop-i.invariant)
+    all)
 
 pub longer-requires-clause-fits : goal.longer-requires-clause-fits
 longer-requires-clause-fits c =

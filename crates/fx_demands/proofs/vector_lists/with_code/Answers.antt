@@ -1,4 +1,4 @@
-use Rattle.std.proofs.Common.{◌≡◌, ◌<◌, ◌≤◌, ◌^◌, ◌*◌, ◌+◌, ◌++◌, [], ◌∷◌, ℕ, arith, sym, ap, ◌∙◌}
+use Rattle.std.proofs.Common.{◌≡◌, ◌<◌, ◌≤◌, ◌^◌, ◌*◌, ◌+◌, ◌++◌, [], ◌∷◌, ℕ, arith}
 use Rattle.fx_designs.specs.Galois.{number, digits}
 use Rattle.fx_designs.specs.Vectors.{IsVector}
 use Rattle.fx_laws.proofs.Codes.{digits-number, number-below}
@@ -21,8 +21,7 @@ sum_is : (c : After-from-2)
     → c.number.result + c.from-2.result * c.pow-power.result ≡ number c.args.field (c.args.v.now ++ c.args.c ∷ [])
 sum_is c =
     rw (c.number.ensures.number, c.from-2.ensures, c.pow-power.ensures, c.from.ensures, c.q.ensures.order)
-    (ap (λ (n : ℕ). number c.args.field c.args.v.now + c.args.c * c.args.field ^ n) (sym c.requires.vector.len) ∙ sym
-    (number-push c.args.field c.args.v.now c.args.c))
+    (cc (c.requires.vector.len, number-push c.args.field c.args.v.now c.args.c))
 
 total_fits : (c : After-from-2) → c.number.result + c.from-2.result * c.pow-power.result < 2 ^ 127
 total_fits c =
@@ -34,9 +33,9 @@ total_fits c =
 pub pow-power-requires : goal.pow-power-requires
 pow-power-requires c =
     let less =
-    shorter-fits c.args.field c.args.len (omega (arith, c.q-known.ensures.least, c.q-known.ensures.order))
+    shorter-fits c.args.field c.args.len (omega arith)
     c.requires.fits in
-    rw (c.from.ensures, c.q.ensures.order) (omega (arith, less))
+    rw (c.from.ensures, c.q.ensures.order) (omega arith)
 
 pub overflow_mul-from : goal.overflow_mul-from
 overflow_mul-from c = let fits = total_fits (goal.at.overflow_mul-from c).After-from-2 in omega arith
@@ -47,5 +46,8 @@ overflow_add-number c = let fits = total_fits (goal.at.overflow_add-number c).Af
 pub returns : goal.returns
 returns c =
     let a = (goal.at.returns c).After-from-2 in
-    c.of_number.ensures.digits ∙ ap (digits c.args.field (c.args.len + 1)) (sum_is a) ∙ digits-number c.args.field
-    (c.args.len + 1) (c.args.v.now ++ c.args.c ∷ []) (longer_vector a)
+    cc (
+      c.of_number.ensures.digits,
+      sum_is a,
+      digits-number c.args.field (c.args.len + 1) (c.args.v.now ++ c.args.c ∷ []) (longer_vector a),
+    )

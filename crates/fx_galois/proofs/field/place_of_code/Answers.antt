@@ -1,4 +1,4 @@
-use Rattle.std.proofs.Common.{◌<◌, rules, refl, subst, sym}
+use Rattle.std.proofs.Common.{rules, refl}
 use Rattle.fx_galois.specs.TableEntries.{code_place}
 use Rattle.fx_galois.proofs.Entries.{code_place-below, last_order}
 use Rattle.fx_galois.proofs.field.place_of_code.Goals as goal
@@ -24,5 +24,4 @@ returns-clause-place c =
 
 pub returns-clause-within : goal.returns-clause-within
 returns-clause-within c =
-    subst (λ x. x < 38) (sym (returns-clause-place c))
-    (code_place-below c.args.q c.args.a c.requires.order c.requires.code)
+    rw (returns-clause-place c) (code_place-below c.args.q c.args.a c.requires.order c.requires.code)

@@ -1,4 +1,4 @@
-use Rattle.std.proofs.Common.{◌<◌, rules, refl, subst, sym}
+use Rattle.std.proofs.Common.{rules, refl}
 use Rattle.fx_galois.specs.TableEntries.{pair_place}
 use Rattle.fx_galois.proofs.Entries.{pair_place-below, last_order}
 use Rattle.fx_galois.proofs.field.place_of_pair.Goals as goal
@@ -24,5 +24,5 @@ returns-clause-place c =
 
 pub returns-clause-within : goal.returns-clause-within
 returns-clause-within c =
-    subst (λ x. x < 248) (sym (returns-clause-place c))
+    rw (returns-clause-place c)
     (pair_place-below c.args.q c.args.a c.args.b c.requires.order c.requires.left c.requires.right)

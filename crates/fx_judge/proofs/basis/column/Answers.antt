@@ -1,4 +1,4 @@
-use Rattle.std.proofs.Common.{ℕ, ◌≡◌, ◌<◌, ◌+◌, ◌++◌, ◌∷◌, [], ◌∙◌, List, length, map, take, get_or, sym, ap, ap₂}
+use Rattle.std.proofs.Common.{ℕ, ◌<◌, ◌+◌, ◌++◌, ◌∷◌, [], ◌∙◌, List, length, map, take, get_or, sym, ap, ap₂}
 use Rattle.std.proofs.Common.{arith}
 use Rattle.std.proofs.Math.ListN.{length-set}
 use Rattle.std.proofs.lemmas.List.{map-append, take_more, take_more_set, take_all, get_or_read}
@@ -6,10 +6,10 @@ use Rattle.fx_judge.proofs.basis.column.Goals as goal
 
 pub loop-k-preserved : goal.loop-k-preserved
 loop-k-preserved c =
-    let rows : List (List ℕ) = c.args.rows.now in
-    let k : ℕ = c.loop-k.k in
+    let rows = c.args.rows.now in
+    let k = c.loop-k.k in
     let low : k < length rows = omega arith in
-    let row : c.get.result.now ≡ get_or rows k [] = get_or_read rows k c.get.result.now low c.get.ensures [] in
+    let row = get_or_read rows k c.get.result.now low c.get.ensures [] in
     let g : List ℕ → ℕ = λ r. get_or r c.args.i 0 in
     record {
       len = ap (λ (l : List ℕ). length l) c.set.ensures.codes ∙ length-set c.loop-k.column k c.code.result ∙
@@ -23,6 +23,9 @@ loop-k-preserved c =
 
 pub returns : goal.returns
 returns c =
-    let rows : List (List ℕ) = c.args.rows.now in
-    sym (take_all c.loop-k.k c.loop-k.column (omega (arith, c.loop-k.invariant.len))) ∙ c.loop-k.invariant.so_far
-    ∙ ap (map (λ r. get_or r c.args.i 0)) (take_all c.loop-k.k rows (omega arith))
+    let rows = c.args.rows.now in
+    cc (
+      take_all c.loop-k.k c.loop-k.column (omega (arith, c.loop-k.invariant.len)),
+      c.loop-k.invariant.so_far,
+      take_all c.loop-k.k rows (omega arith),
+    )

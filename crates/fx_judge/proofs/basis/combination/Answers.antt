@@ -1,4 +1,4 @@
-use Rattle.std.proofs.Common.{ℕ, ◌≡◌, ◌<◌, ◌+◌, [], ◌∙◌, List, length, drop, get_or, sym, ap, arith}
+use Rattle.std.proofs.Common.{ℕ, ◌<◌, ◌+◌, [], ◌∙◌, List, length, drop, sym, ap, arith}
 use Rattle.std.proofs.lemmas.List.{get_or_read}
 use Rattle.std.proofs.lemmas.List.Elements.{recursion_from_All}
 use Rattle.fx_designs.specs.Vectors.{IsVector, combination, plus, zeros}
@@ -9,10 +9,10 @@ use Rattle.fx_judge.proofs.basis.combination.Goals as goal
 
 pub loop-k-init : goal.loop-k-init
 loop-k-init c =
-    let q : ℕ = c.args.field in
-    let m : ℕ = length c.args.u.now in
+    let q = c.args.field in
+    let m = length c.args.u.now in
     let f = is_order-field q c.q-known.ensures.known in
-    let len : c.len.result ≡ m = c.len.ensures.count in
+    let len = c.len.ensures.count in
     record {
       vector = rw len at (c.zero-sum.ensures.vector q (omega (arith, c.q-known.ensures.least)));
       so_far =
@@ -25,14 +25,14 @@ loop-k-init c =
 
 pub loop-k-preserved : goal.loop-k-preserved
 loop-k-preserved c =
-    let q : ℕ = c.args.field in
-    let m : ℕ = length c.args.u.now in
+    let q = c.args.field in
+    let m = length c.args.u.now in
     let f = is_order-field q c.q-known.ensures.known in
-    let rows : List (List ℕ) = c.args.rows.now in
-    let k : ℕ = c.loop-k.k in
+    let rows = c.args.rows.now in
+    let k = c.loop-k.k in
     let low : k < m = omega arith in
-    let row : c.get.result.now ≡ get_or rows k [] =
-    get_or_read rows k c.get.result.now (omega (arith, c.requires.same)) c.get.ensures [] in
+    let row =
+    get_or_read rows k c.get.result.now (omega arith) c.get.ensures [] in
     record {
       vector = rw c.loop-k.invariant.vector.len at c.add_scaled.ensures.vector;
       so_far =
@@ -45,7 +45,7 @@ loop-k-preserved c =
 
 pub returns-clause-sum : goal.returns-clause-sum
 returns-clause-sum c =
-    let q : ℕ = c.args.field in
+    let q = c.args.field in
     let f = is_order-field q c.q-known.ensures.known in
     sym (combination_end q f (length c.args.u.now) c.args.u.now c.args.rows.now c.loop-k.k c.loop-k.sum (omega arith)
     c.loop-k.invariant.vector) ∙ c.loop-k.invariant.so_far

@@ -8,9 +8,9 @@ use Rattle.fx_judge.proofs.basis.exception.Goals as goal
 
 pub returns-then-dot-code : goal.returns-then-dot-code
 returns-then-dot-code c =
-    let D : List (List ℕ) = c.args.differences.now in
+    let D = c.args.differences.now in
     let low : c.loop-k.k < length D = omega arith in
-    let row : c.get-d.result.now ≡ get_or D c.loop-k.k [] =
+    let row =
     get_or_read D c.loop-k.k c.get-d.result.now low c.get-d.ensures [] in
     record {
       there = low;
@@ -21,20 +21,18 @@ returns-then-dot-code c =
 
 pub loop-k-preserved : goal.loop-k-preserved
 loop-k-preserved c =
-    let D : List (List ℕ) = c.args.differences.now in
+    let D = c.args.differences.now in
     let p : List ℕ → Bool = λ d. eqb (dot c.args.field c.args.u.now d) (get_or d c.args.i 0) in
     let low : c.loop-k.k < length D = omega arith in
-    let row : c.get-d.result.now ≡ get_or D c.loop-k.k [] =
+    let row =
     get_or_read D c.loop-k.k c.get-d.result.now low c.get-d.ensures [] in
     let same : c.dot.result ≡ c.code.result = search rules in
     list_all_more p D c.loop-k.k [] low
     ∙ and_from (list_all p (take c.loop-k.k D)) (p (get_or D c.loop-k.k [])) c.loop-k.invariant
     (eq-eqb _ _
-    (sym (ap (dot c.args.field c.args.u.now) row) ∙ sym c.dot.ensures.product ∙ same ∙ c.code.ensures ∙ ap
-    (λ (d : List ℕ). get_or d c.args.i 0) row))
+    (cc (c.dot.ensures.product, c.code.ensures)))
 
 pub returns : goal.returns
 returns c =
-    let D : List (List ℕ) = c.args.differences.now in
-    sym (ap (list_all (λ d. eqb (dot c.args.field c.args.u.now d) (get_or d c.args.i 0)))
-    (take_all c.loop-k.k D (omega arith))) ∙ c.loop-k.invariant
+    let D = c.args.differences.now in
+    cc (take_all c.loop-k.k D (omega arith), c.loop-k.invariant)

@@ -1,4 +1,4 @@
-use Rattle.std.proofs.Common.{ℕ, ◌≡◌, ◌<◌, ◌++◌, ◌∷◌, [], ◌∙◌, List, length, get_or, sym, ap₂, arith}
+use Rattle.std.proofs.Common.{ℕ, ◌<◌, ◌++◌, ◌∷◌, [], ◌∙◌, List, length, sym, ap₂, arith}
 use Rattle.std.proofs.lemmas.List.{get_or_read, take_all, take_more}
 use Rattle.fx_judge.specs.Bases.{grown}
 use Rattle.fx_judge.proofs.Stepping.{grown_entry, grown_length}
@@ -6,12 +6,12 @@ use Rattle.fx_judge.proofs.basis.grown.Goals as goal
 
 pub loop-k-preserved : goal.loop-k-preserved
 loop-k-preserved c =
-    let q : ℕ = c.args.field in
-    let rows : List (List ℕ) = c.args.rows.now in
-    let e : List ℕ = c.args.e.now in
-    let k : ℕ = c.loop-k.k in
+    let q = c.args.field in
+    let rows = c.args.rows.now in
+    let e = c.args.e.now in
+    let k = c.loop-k.k in
     let low : k < length rows = omega arith in
-    let row : c.get.result.now ≡ get_or rows k [] = get_or_read rows k c.get.result.now low c.get.ensures [] in
+    let row = get_or_read rows k c.get.result.now low c.get.ensures [] in
     let entry =
     grown_entry q rows e c.changed.result c.get.result.now c.args.i k low row c.changed.ensures.same
     c.changed.ensures.other in

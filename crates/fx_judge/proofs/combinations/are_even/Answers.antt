@@ -1,4 +1,4 @@
-use Rattle.std.proofs.Common.{rules, ℕ, ◌≡◌, ◌<◌, ◌≤◌, ◌^◌, ◌∙◌, Bool, List, map, length, subst, ap, arith}
+use Rattle.std.proofs.Common.{rules, ◌≡◌, ◌<◌, ◌≤◌, ◌^◌, map, length, arith}
 use Rattle.fx_judge.specs.Bases.{basic_key, rank}
 use Rattle.fx_judge.specs.Tallies.{AreValueCounts}
 use Rattle.fx_judge.proofs.Keys.{even_if_equal, equal_if_even}
@@ -6,18 +6,17 @@ use Rattle.fx_judge.proofs.combinations.are_even.Goals as goal
 
 pub returns-in-Some : goal.returns-in-Some
 returns-in-Some c =
-    let q : ℕ = c.args.field in
-    let marks : List Bool = c.args.basic.now.items in
-    let D : List (List ℕ) = c.args.differences.now in
+    let q = c.args.field in
+    let marks = c.args.basic.now.items in
+    let D = c.args.differences.now in
     let is : c.in-Some.size ≡ q ^ rank marks =
-    c.in-Some.ensures.0 ∙ ap (λ (l : List Bool). q ^ rank l) c.as_slice.ensures.value in
+    cc (c.in-Some.ensures.0, c.as_slice.ensures.value) in
     let few : c.in-Some.size ≤ length D = search rules in
     let some : 0 < c.in-Some.size = search rules in
     let tallied : AreValueCounts 4096 (map (basic_key q marks) D) c.tally.result =
-    subst (λ (l : List Bool). AreValueCounts 4096 (map (basic_key q l) D) c.tally.result)
-    c.as_slice-in-Some.ensures.value c.tally.ensures in
-    let first : 0 < q ^ rank marks = omega (arith, is, some) in
-    let most : q ^ rank marks ≤ 4096 = omega (arith, is, few, c.requires.few) in (
+    rw c.as_slice-in-Some.ensures.value at c.tally.ensures in
+    let first : 0 < q ^ rank marks = omega arith in
+    let most : q ^ rank marks ≤ 4096 = omega arith in (
       λ t. even_if_equal q marks D c.tally.result first most tallied c.in-Some.size is (c.are_equal.ensures.0 t),
       λ e. c.are_equal.ensures.1 (equal_if_even q marks D c.tally.result first most tallied c.in-Some.size is e),
     )

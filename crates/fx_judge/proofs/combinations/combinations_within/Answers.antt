@@ -1,4 +1,4 @@
-use Rattle.std.proofs.Common.{ℕ, ◌≡◌, ◌<◌, ◌+◌, ◌*◌, ◌^◌, ◌∙◌, true, false, get_or, drop, length, ap}
+use Rattle.std.proofs.Common.{◌≡◌, ◌<◌, ◌+◌, ◌*◌, ◌^◌, ◌∙◌, true, false, get_or, drop, length}
 use Rattle.std.proofs.Common.{arith, rules}
 use Rattle.fx_judge.specs.Bases.{rank}
 use Rattle.fx_judge.proofs.Keys.{size_in, size_out, size_grows}
@@ -13,10 +13,10 @@ returns-then-size-limit c =
     ≡ c.args.field ^ rank c.args.basic.now =
     size_in c.args.field c.loop-i.size c.args.basic.now c.loop-i.i (omega arith) is ∙ c.loop-i.invariant.all in
     let grows = size_grows c.args.field (c.loop-i.size * c.args.field) (c.args.field ^ rank c.args.basic.now)
-    (rank (drop (c.loop-i.i + 1) c.args.basic.now)) (omega (arith, c.q.ensures.least, c.q.ensures.order)) step in
+    (rank (drop (c.loop-i.i + 1) c.args.basic.now)) (omega arith) step in
     let past : c.args.limit < c.loop-i.size * c.from-q.result = search rules in
-    let same : c.loop-i.size * c.from-q.result ≡ c.loop-i.size * c.args.field = ap (λ (n : ℕ). c.loop-i.size * n) q in
-    omega (arith, past, same, grows)
+    let same : c.loop-i.size * c.from-q.result ≡ c.loop-i.size * c.args.field = cc in
+    omega arith
 
 pub loop-i-preserved : goal.loop-i-preserved
 loop-i-preserved c =
@@ -26,18 +26,20 @@ loop-i-preserved c =
       | then-basic-i+else-size-limit w ↦
           let is : get_or c.args.basic.now c.loop-i.i false ≡ true = search rules in
           let same : c.if-basic-i.size ≡ c.loop-i.size * c.args.field =
-          w.size-is ∙ ap (λ (n : ℕ). c.loop-i.size * n) q in
+          cc w.size-is in
           record {
-            all = ap (λ (n : ℕ). n * c.args.field ^ rank (drop (c.loop-i.i + 1) c.args.basic.now)) same
-                ∙ size_in c.args.field c.loop-i.size c.args.basic.now c.loop-i.i low is ∙ c.loop-i.invariant.all;
+            all = cc (size_in c.args.field c.loop-i.size c.args.basic.now c.loop-i.i low is, c.loop-i.invariant.all);
             some = search rules;
             few = search rules;
           }
       | else-basic-i w ↦
           let is : get_or c.args.basic.now c.loop-i.i false ≡ false = search rules in
           record {
-            all = ap (λ (n : ℕ). n * c.args.field ^ rank (drop (c.loop-i.i + 1) c.args.basic.now)) w.size-is
-                ∙ size_out c.args.field c.loop-i.size c.args.basic.now c.loop-i.i low is ∙ c.loop-i.invariant.all;
+            all = cc (
+              w.size-is,
+              size_out c.args.field c.loop-i.size c.args.basic.now c.loop-i.i low is,
+              c.loop-i.invariant.all,
+            );
             some = search rules;
             few = search rules;
           }

@@ -1,5 +1,5 @@
-use Rattle.std.proofs.Common.{ℕ, ◌≡◌, ◌++◌, ◌∙◌, List, length, ap, ap₂, subst, append_assoc}
-use Rattle.std.specs.Prelude.{OnOk, codes}
+use Rattle.std.proofs.Common.{ℕ, ◌≡◌, ◌++◌, ◌∙◌, List, length, ap, ap₂, append_assoc}
+use Rattle.std.specs.Prelude.{codes}
 use Rattle.fx_components.specs.Lines.{or_none}
 use Rattle.fx_judge.specs.declared.kinship.Kinship.{Kinship}
 use Rattle.fx_judge.specs.Listing.{plan_size_line, kinship_lines, kinships, pair_lines, plan_listing, regular_lines}
@@ -11,34 +11,37 @@ use Rattle.fx_judge.proofs.listing.put_listing.Goals as goal
 six : (old a b c d e f : List ℕ)
     → (((((old ++ a) ++ b) ++ c) ++ d) ++ e) ++ f ≡ old ++ (a ++ (b ++ (c ++ (d ++ (e ++ f)))))
 six old a b c d e f =
-    append_assoc ((((old ++ a) ++ b) ++ c) ++ d) e f ∙ append_assoc (((old ++ a) ++ b) ++ c) d (e ++ f)
-    ∙ append_assoc ((old ++ a) ++ b) c (d ++ (e ++ f)) ∙ append_assoc (old ++ a) b (c ++ (d ++ (e ++ f)))
-    ∙ append_assoc old a (b ++ (c ++ (d ++ (e ++ f))))
+    cc (
+      append_assoc ((((old ++ a) ++ b) ++ c) ++ d) e f,
+      append_assoc (((old ++ a) ++ b) ++ c) d (e ++ f),
+      append_assoc ((old ++ a) ++ b) c (d ++ (e ++ f)),
+      append_assoc (old ++ a) b (c ++ (d ++ (e ++ f))),
+      append_assoc old a (b ++ (c ++ (d ++ (e ++ f)))),
+    )
 
 pub returns : goal.returns
 returns c =
     let plan = c.args.plan.now in
-    let out : List ℕ = c.args.out.now in
-    let A : List ℕ = runs_line (length c.args.plan.now.rows) in
-    let B : List ℕ = plan_size_line (length c.args.plan.now.names) c.args.plan.now.q in
-    let C : List ℕ = regular_lines c.args.plan.now.names (regular_rules c.args.plan.now) in
-    let D : List ℕ = kinship_lines (kinships c.args.plan.now) in
-    let E : List ℕ = codes "not orthogonal\n" in
-    let F : List ℕ = or_none (pair_lines c.args.plan.now) in
+    let out = c.args.out.now in
+    let A = runs_line (length c.args.plan.now.rows) in
+    let B = plan_size_line (length c.args.plan.now.names) c.args.plan.now.q in
+    let C = regular_lines c.args.plan.now.names (regular_rules c.args.plan.now) in
+    let D = kinship_lines (kinships c.args.plan.now) in
+    let E = codes "not orthogonal\n" in
+    let F = or_none (pair_lines c.args.plan.now) in
     let long : length c.names-2.result.now ≡ length c.args.plan.now.names =
-    ap (λ (l : List (List ℕ)). length l) c.names-2.ensures.names in
+    cc c.names-2.ensures.names in
     let a : c.put_runs.new.out ≡ out ++ A =
-    c.in_ok-put_runs.ensures ∙ ap (λ n. out ++ runs_line n) c.len.ensures.count in
+    cc (c.in_ok-put_runs.ensures, c.len.ensures.count) in
     let b : c.put_factors.new.out ≡ (out ++ A) ++ B =
     c.in_ok-put_factors.ensures ∙ ap₂ (λ n q. c.put_runs.new.out ++ plan_size_line n q) long
     (c.q.ensures.order ∙ c.field.ensures.field) ∙ ap (λ (l : List ℕ). l ++ B) a in
     let e : c.put_regular.new.out ≡ ((out ++ A) ++ B) ++ C =
-    c.in_ok-put_regular.ensures ∙ ap (λ (l : List ℕ). l ++ C) b in
+    cc c.in_ok-put_regular.ensures in
     let kinds : c.as_slice-3.result.now ≡ kinships c.args.plan.now =
     c.as_slice-3.ensures ∙ c.in_ok-pairs.ensures.kinds in
     let d : c.put_kinships.new.out ≡ (((out ++ A) ++ B) ++ C) ++ D =
     c.in_ok-put_kinships.ensures ∙ ap₂ (λ (l : List ℕ) (k : List Kinship). l ++ kinship_lines k) e kinds in
     let last : c.put.new.out ++ or_none c.as_slice-4.result.now ≡ out ++ plan_listing c.args.plan.now =
-    ap₂ (λ (l m : List ℕ). l ++ or_none m) (c.in_ok-put.ensures.ok ∙ ap (λ (l : List ℕ). l ++ E) d)
-    (c.as_slice-4.ensures ∙ c.in_ok-pairs.ensures.lines) ∙ six out A B C D E F in
-    subst (λ (l : List ℕ). OnOk c.put_or_none.result (c.put_or_none.new.out ≡ l)) last c.put_or_none.ensures
+    cc (c.in_ok-put.ensures.ok, c.as_slice-4.ensures, c.in_ok-pairs.ensures.lines, six out A B C D E F) in
+    rw last at c.put_or_none.ensures

@@ -7,9 +7,9 @@ use Rattle.fx_judge.proofs.pairs.columns_of.Goals as goal
 
 pub loop-i-preserved : goal.loop-i-preserved
 loop-i-preserved c =
-    let columns : List Column = c.loop-i.columns in
-    let column : Column = c.in_ok-column_of.field-0 in
-    let components : List (List ℕ) = c.in_ok-components.components in
+    let columns = c.loop-i.columns in
+    let column = c.in_ok-column_of.field-0 in
+    let components = c.in_ok-components.components in
     let component : Column → List ℕ = λ v. v.component in
     let low : c.loop-i.i < length components = omega arith in
     let here = get_or_read components c.loop-i.i c.get.result.now low c.get.ensures [] in

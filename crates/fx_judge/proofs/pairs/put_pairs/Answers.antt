@@ -6,9 +6,9 @@ use Rattle.fx_judge.proofs.pairs.put_pairs.Goals as goal
 
 pub loop-v-preserved : goal.loop-v-preserved
 loop-v-preserved c =
-    let later : List Column = c.args.later.now in
+    let later = c.args.later.now in
     let with : Column → List ℕ × List ℕ = λ v. (c.args.u.now.component, v.component) in
-    let k : ℕ = c.loop-v.v-index in
+    let k = c.loop-v.v-index in
     let low : k < length later = omega arith in
     let is = ap with c.v-item.is ∙ sym (get_or-map with later k c.v-item.result (with c.v-item.result) low) in
     pairs_more c.args.plan.now (map with later) k (with c.v-item.result) (with c.v-item.result) c.args.pairs.now

@@ -1,4 +1,4 @@
-use Rattle.std.proofs.Common.{ℕ, ◌≡◌, ◌<◌, ◌+◌, ◌*◌, ◌∙◌, List, length, map, get_or, [], sym, ap, ap₂, arith}
+use Rattle.std.proofs.Common.{ℕ, ◌≡◌, ◌<◌, ◌+◌, ◌*◌, List, length, map, get_or, [], arith}
 use Rattle.std.proofs.lemmas.List.{length-map}
 use Rattle.fx_designs.specs.Vectors.{dot}
 use Rattle.fx_laws.proofs.Linear.{dot_code}
@@ -18,10 +18,10 @@ bounds-pairs-from c =
     let a = column_code plan c.len-i-end.ensures.valid c.args.u.now c.requires.first c.loop-i.i low in
     let b = column_code plan c.len-i-end.ensures.valid c.args.v.now c.requires.second c.loop-i.i low in
     let ea : c.from.result ≡ get_or c.args.u.now.values c.loop-i.i 0 =
-    c.from.ensures ∙ ap (λ (l : List ℕ). get_or l c.loop-i.i 0) c.as_slice-us.ensures in
+    cc (c.from.ensures, c.as_slice-us.ensures) in
     let eb : c.from-in-loop-i.result ≡ get_or c.args.v.now.values c.loop-i.i 0 =
-    c.from-in-loop-i.ensures ∙ ap (λ (l : List ℕ). get_or l c.loop-i.i 0) c.as_slice-vs.ensures in
-    omega (arith, a, b, ea, eb)
+    cc (c.from-in-loop-i.ensures, c.as_slice-vs.ensures) in
+    omega arith
 
 pub bounds-pairs-from-in-loop-i : goal.bounds-pairs-from-in-loop-i
 bounds-pairs-from-in-loop-i c =
@@ -30,29 +30,27 @@ bounds-pairs-from-in-loop-i c =
     let a = column_code plan c.len-i-end.ensures.valid c.args.u.now c.requires.first c.loop-i.i low in
     let b = column_code plan c.len-i-end.ensures.valid c.args.v.now c.requires.second c.loop-i.i low in
     let ea : c.from.result ≡ get_or c.args.u.now.values c.loop-i.i 0 =
-    c.from.ensures ∙ ap (λ (l : List ℕ). get_or l c.loop-i.i 0) c.as_slice-us.ensures in
+    cc (c.from.ensures, c.as_slice-us.ensures) in
     let eb : c.from-in-loop-i.result ≡ get_or c.args.v.now.values c.loop-i.i 0 =
-    c.from-in-loop-i.ensures ∙ ap (λ (l : List ℕ). get_or l c.loop-i.i 0) c.as_slice-vs.ensures in
-    omega (arith, a, b, ea, eb)
+    cc (c.from-in-loop-i.ensures, c.as_slice-vs.ensures) in
+    omega arith
 
 pub loop-i-preserved : goal.loop-i-preserved
 loop-i-preserved c =
     let plan = c.args.plan.now in
-    let q : ℕ = c.args.plan.now.q in
-    let rows : List (List ℕ) = c.args.plan.now.rows in
-    let i : ℕ = c.loop-i.i in
+    let q = c.args.plan.now.q in
+    let rows = c.args.plan.now.rows in
+    let i = c.loop-i.i in
     let low : i < length rows = omega arith in
     let both : List ℕ → ℕ = λ x. 9 * dot q c.args.u.now.component x + dot q c.args.v.now.component x in
     let a : c.from.result ≡ dot q c.args.u.now.component (get_or rows i []) =
-    c.from.ensures ∙ ap (λ (l : List ℕ). get_or l i 0) c.as_slice-us.ensures
-    ∙ column_value plan c.args.u.now c.requires.first i low in
+    cc (c.from.ensures, c.as_slice-us.ensures, column_value plan c.args.u.now c.requires.first i low) in
     let b : c.from-in-loop-i.result ≡ dot q c.args.v.now.component (get_or rows i []) =
-    c.from-in-loop-i.ensures ∙ ap (λ (l : List ℕ). get_or l i 0) c.as_slice-vs.ensures
-    ∙ column_value plan c.args.v.now c.requires.second i low in
+    cc (c.from-in-loop-i.ensures, c.as_slice-vs.ensures, column_value plan c.args.v.now c.requires.second i low) in
     let nine = (order-bounds q c.len-i-end.ensures.valid.order).1 in
     let f = is_order-field q c.len-i-end.ensures.valid.order in
     counted_more 81 (map both rows) c.loop-i.pairs i (9 * c.from.result + c.from-in-loop-i.result)
-    (rw (length-map rows both) low) (value_at both rows i [] low ∙ ap₂ (λ (a b : ℕ). 9 * a + b) (sym a) (sym b))
+    (rw (length-map rows both) low) (cc (value_at both rows i [] low))
     (omega (
       arith,
       a,

@@ -12,11 +12,11 @@ use Rattle.fx_judge.proofs.reading.codes_from.Goals as goal
 
 pub returns-in-None : goal.returns-in-None
 returns-in-None c =
-    let q : ℕ = c.args.q in
-    let fields : List (List ℕ) = fields_of c.args.row.now in
-    let rest : List (List ℕ) = drop c.args.first fields in
-    let i : ℕ = c.loop-i.i in
-    let low : i < length rest = omega (arith, length-drop c.args.first fields, c.len.ensures) in
+    let q = c.args.q in
+    let fields = fields_of c.args.row.now in
+    let rest = drop c.args.first fields in
+    let i = c.loop-i.i in
+    let low : i < length rest = omega (arith, length-drop c.args.first fields) in
     let at : c.field.result.now ≡ get_or rest i [] = c.field.ensures ∙ sym (get_or-drop c.args.first fields i []) in
     list_all_at (λ field. is_some (value_code q field)) rest i [] low
     (ap (λ (x : List ℕ). is_some (value_code q x)) (sym at) ∙ ap (λ (o : Option ℕ). is_some o)
@@ -24,17 +24,17 @@ returns-in-None c =
 
 pub loop-i-preserved : goal.loop-i-preserved
 loop-i-preserved c =
-    let q : ℕ = c.args.q in
-    let fields : List (List ℕ) = fields_of c.args.row.now in
-    let rest : List (List ℕ) = drop c.args.first fields in
-    let i : ℕ = c.loop-i.i in
+    let q = c.args.q in
+    let fields = fields_of c.args.row.now in
+    let rest = drop c.args.first fields in
+    let i = c.loop-i.i in
     let p : List ℕ → Bool = λ field. is_some (value_code q field) in
     let g : List ℕ → ℕ = λ field. unwrap_or (value_code q field) 0 in
-    let low : i < length rest = omega (arith, length-drop c.args.first fields, c.len.ensures) in
+    let low : i < length rest = omega (arith, length-drop c.args.first fields) in
     let at : c.field.result.now ≡ get_or rest i [] = c.field.ensures ∙ sym (get_or-drop c.args.first fields i []) in
     let told : Some c.in-Some.code ≡ value_code q (get_or rest i []) = c.in-Some.ensures.code ∙ ap (value_code q) at in
     let room : i < length c.loop-i.codes =
-    omega (arith, c.loop-i.invariant.vector.len, length-drop c.args.first fields) in
+    omega (arith, length-drop c.args.first fields) in
     let small : c.in-Some.code < q =
     omega (
       arith,

@@ -1,4 +1,4 @@
-use Rattle.std.proofs.Common.{ℕ, ◌≡◌, ◌≤◌, ◌-◌, ◌∙◌, ◌&&◌, leb, List, [], length, map, drop, get_or, sym, subst, ap}
+use Rattle.std.proofs.Common.{ℕ, ◌≡◌, ◌-◌, ◌∙◌, ◌&&◌, leb, [], length, map, drop, get_or, sym, subst, ap}
 use Rattle.std.proofs.Common.{arith, rules, true}
 use Rattle.std.proofs.lemmas.Bool.{and_parts, leb-true, eqb-false}
 use Rattle.std.proofs.lemmas.List.{length-map, length-drop, get_or-map}
@@ -12,30 +12,31 @@ use Rattle.fx_judge.proofs.reading.plan_from.Goals as goal
 
 pub new-requires : goal.new-requires
 new-requires c =
-    let q : ℕ = c.q-q.result in
-    let order : q ≡ c.args.field = c.q-q.ensures.order in
-    let all : List (List (List ℕ)) = map fields_of c.args.records.now in
-    let head : List (List ℕ) = get_or all 0 [] in
-    let names : List (List ℕ) = c.in-Ok.names in
+    let q = c.q-q.result in
+    let order = c.q-q.ensures.order in
+    let all = map fields_of c.args.records.now in
+    let head = get_or all 0 [] in
+    let names = c.in-Ok.names in
     let told : c.are_names.result ≡ true = search rules in
-    let fit : are_names names ≡ true = ap are_names (sym c.as_slice.ensures) ∙ sym c.are_names.ensures ∙ told in
+    let fit : are_names names ≡ true = cc (c.as_slice.ensures, c.are_names.ensures) in
     let parts = and_parts (leb 1 (length names)) (leb (length names) 40 && are_fit names) fit in
     let more = and_parts (leb (length names) 40) (are_fit names) parts.1 in
-    let some : 1 ≤ length names = leb-true 1 (length names) parts.0 in
-    let few : length names ≤ 40 = leb-true (length names) 40 more.0 in
-    let count : length all ≡ length c.args.records.now = length-map c.args.records.now fields_of in
-    let behind : length (drop 1 all) ≡ length all - 1 = length-drop 1 all in
+    let some = leb-true 1 (length names) parts.0 in
+    let few = leb-true (length names) 40 more.0 in
+    let count = length-map c.args.records.now fields_of in
+    let behind = length-drop 1 all in
     let long : length c.in_ok-rows.rows ≡ length (drop 1 all) =
-    ap (λ (l : List (List ℕ)). length l) c.in_ok-rows.ensures.rows ∙ length-map (drop 1 all) (codes_in q head) in
-    let empty : (length c.args.records.now ≡ 0 → ⊥) =
+    cc (c.in_ok-rows.ensures.rows, length-map (drop 1 all) (codes_in q head)) in
+    let empty =
     eqb-false (length c.args.records.now) 0 (sym c.is_empty.ensures ∙ c.if-is_empty.false) in
     let short = none_short q head 2 (drop 1 all) (omega arith) c.in_ok-rows.ensures.none in
     let first_is : fields_of c.index-records-0.result ≡ head =
-    ap fields_of c.index-records-0.is ∙ sym
-    (get_or-map fields_of c.args.records.now 0 c.index-records-0.result [] (omega (arith, empty))) in
+    cc (
+      c.index-records-0.is,
+      get_or-map fields_of c.args.records.now 0 c.index-records-0.result [] (omega (arith, empty)),
+    ) in
     let wide : length names ≡ length head - c.unread-first.result =
-    ap (λ (l : List (List ℕ)). length l) c.in-Ok.ensures ∙ length-drop c.unread-first.result
-    (fields_of c.index-records-0.result) ∙ ap (λ (l : List (List ℕ)). length l - c.unread-first.result) first_is in
+    cc (c.in-Ok.ensures, length-drop c.unread-first.result (fields_of c.index-records-0.result)) in
     record {
       order = c.q-q.ensures.known;
       some_factors = some;

@@ -1,10 +1,7 @@
-use Rattle.std.proofs.Common.{ℕ, ◌≡◌, ◌∙◌, List, None, Option, length, map, take, sym, subst, ap, arith}
-use Rattle.std.specs.Prelude.{IfOk, IfErr}
+use Rattle.std.proofs.Common.{ℕ, ◌≡◌, ◌∙◌, List, None, length, map, take, sym, ap, arith}
 use Rattle.std.proofs.lemmas.List.{length-map, length-take}
 use Rattle.csv.specs.Records.{fields_of}
-use Rattle.fx_judge.specs.declared.fault.PlanFault.{PlanFault}
 use Rattle.fx_judge.specs.Reading.{first_fault, plan_in, csv_records}
-use Rattle.fx_judge.specs.Steps.{IsFirst}
 use Rattle.fx_judge.proofs.Cutting.{first_cut, whole_cut, both_ok}
 use Rattle.fx_judge.proofs.reading.read_text.Goals as goal
 use Rattle.fx_judge.proofs.reading.read_text.Goals.{After-plan_from}
@@ -23,30 +20,30 @@ plan_from-requires c =
     )
 
 front : (c : After-plan_from) → map fields_of c.as_slice.result.now ≡ take 4098 (csv_records c.args.text.now)
-front c = ap (map fields_of) c.as_slice.ensures.value ∙ c.in-Ok.ensures
+front c = cc (c.as_slice.ensures.value, c.in-Ok.ensures)
 
 told : (c : After-plan_from)
     → first_fault c.args.field (map fields_of c.as_slice.result.now)
     ≡ first_fault c.args.field (csv_records c.args.text.now)
-told c = ap (first_fault c.args.field) (front c) ∙ first_cut c.args.field (csv_records c.args.text.now)
+told c = cc (front c, first_cut c.args.field (csv_records c.args.text.now))
 
 pub returns-clause-none : goal.returns-clause-none
 returns-clause-none c =
-    subst (λ (o : Option PlanFault). IfOk c.plan_from.result (λ plan. o ≡ None))
-    (told (goal.at.returns-clause-none c).After-plan_from) c.plan_from.ensures.none
+    rw (told (goal.at.returns-clause-none c).After-plan_from) at c.plan_from.ensures.none
 
 pub returns-clause-plan : goal.returns-clause-plan
 returns-clause-plan c =
-    let text : List ℕ = c.args.text.now in
-    let q : ℕ = c.args.field in
+    let text = c.args.text.now in
+    let q = c.args.field in
     both_ok (λ plan. first_fault q (map fields_of c.as_slice.result.now) ≡ None)
     (λ plan. plan ≡ plan_in q (map fields_of c.as_slice.result.now)) (λ plan. plan ≡ plan_in q (csv_records text))
     c.plan_from.result c.plan_from.ensures.none c.plan_from.ensures.plan
-    (λ plan none is. is ∙ ap (plan_in q)
-    (front (goal.at.returns-clause-plan c).After-plan_from ∙ whole_cut q 4098 (csv_records text) (omega arith)
-    (sym (told (goal.at.returns-clause-plan c).After-plan_from) ∙ none)))
+    (λ plan none is. cc (
+      front (goal.at.returns-clause-plan c).After-plan_from,
+      whole_cut q 4098 (csv_records text) (omega arith)
+          (sym (told (goal.at.returns-clause-plan c).After-plan_from) ∙ none),
+    ))
 
 pub returns-clause-refused : goal.returns-clause-refused
 returns-clause-refused c =
-    subst (λ (o : Option PlanFault). IfErr c.plan_from.result (λ stop. IsFirst stop o))
-    (told (goal.at.returns-clause-refused c).After-plan_from) c.plan_from.ensures.refused
+    rw (told (goal.at.returns-clause-refused c).After-plan_from) at c.plan_from.ensures.refused

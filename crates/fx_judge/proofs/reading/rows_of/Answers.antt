@@ -12,45 +12,45 @@ use Rattle.fx_judge.proofs.reading.rows_of.Goals.{After-codes_of}
 
 head_is : (c : After-codes_of) → fields_of c.index-records-0.result ≡ get_or (map fields_of c.args.records.now) 0 []
 head_is c =
-    ap fields_of c.index-records-0.is ∙ sym
-    (get_or-map fields_of c.args.records.now 0 c.index-records-0.result [] c.requires.some)
+    cc (c.index-records-0.is, get_or-map fields_of c.args.records.now 0 c.index-records-0.result [] c.requires.some)
 
 row_is : (c : After-codes_of)
     → fields_of c.index-records-k.result ≡ get_or (map fields_of c.args.records.now) c.loop-k.k []
 row_is c =
-    ap fields_of c.index-records-k.is ∙ sym
-    (get_or-map fields_of c.args.records.now c.loop-k.k c.index-records-k.result [] (omega arith))
+    cc (
+      c.index-records-k.is,
+      get_or-map fields_of c.args.records.now c.loop-k.k c.index-records-k.result [] (omega arith),
+    )
 
 pub returns-in-Err-clause-refused : goal.returns-in-Err-clause-refused
 returns-in-Err-clause-refused c =
     let b = (goal.at.returns-in-Err-clause-refused c).After-codes_of in
-    let q : ℕ = c.args.q in
-    let all : List (List (List ℕ)) = map fields_of c.args.records.now in
-    let k : ℕ = c.loop-k.k in
+    let q = c.args.q in
+    let all = map fields_of c.args.records.now in
+    let k = c.loop-k.k in
     let low : k < length all = omega (arith, length-map c.args.records.now fields_of) in
     let stop : StopsAt q (get_or all 0 []) (k + 1) (get_or all k []) c.in-Err.found =
-    subst (λ (h : List (List ℕ)). StopsAt q h (k + 1) (get_or all k []) c.in-Err.found) (head_is b)
-    (subst (λ (r : List (List ℕ)). StopsAt q (fields_of c.index-records-0.result) (k + 1) r c.in-Err.found) (row_is b)
+    rw (head_is b) at (subst
+    (λ (r : List (List ℕ)). StopsAt q (fields_of c.index-records-0.result) (k + 1) r c.in-Err.found) (row_is b)
     c.in-Err.ensures) in
-    sym c.loop-k.invariant.fault ∙ ap (row_fault q (get_or all 0 []) (k + 1)) (drop_more all k [] low) ∙ stop.stops
-    (drop (k + 1) all)
+    cc (c.loop-k.invariant.fault, drop_more all k [] low, stop.stops (drop (k + 1) all))
 
 pub loop-k-preserved : goal.loop-k-preserved
 loop-k-preserved c =
     let b = (goal.at.loop-k-preserved c).After-codes_of in
-    let q : ℕ = c.args.q in
-    let all : List (List (List ℕ)) = map fields_of c.args.records.now in
-    let head : List (List ℕ) = get_or all 0 [] in
-    let k : ℕ = c.loop-k.k in
+    let q = c.args.q in
+    let all = map fields_of c.args.records.now in
+    let head = get_or all 0 [] in
+    let k = c.loop-k.k in
     let low : k < length all = omega (arith, length-map c.args.records.now fields_of) in
-    let codes : List ℕ = c.in-Ok-codes_of.codes in
+    let codes = c.in-Ok-codes_of.codes in
     let on : GoesOn q head (k + 1) (get_or all k []) codes =
-    subst (λ (h : List (List ℕ)). GoesOn q h (k + 1) (get_or all k []) codes) (head_is b)
-    (subst (λ (r : List (List ℕ)). GoesOn q (fields_of c.index-records-0.result) (k + 1) r codes) (row_is b)
+    rw (head_is b) at (subst (λ (r : List (List ℕ)). GoesOn q (fields_of c.index-records-0.result) (k + 1) r codes)
+    (row_is b)
     c.in-Ok-codes_of.ensures) in
-    let pushed : c.push.new.self ≡ c.loop-k.rows ++ codes ∷ [] =
+    let pushed =
     on-ok c.push.result (sym c.is_err.ensures.value ∙ c.if-is_err.false) c.push.ensures.ok in
-    let rest : drop k all ≡ get_or all k [] ∷ drop (k + 1) all = drop_more all k [] low in
+    let rest = drop_more all k [] low in
     record {
       from = omega arith;
       fault = sym (on.on (drop (k + 1) all)) ∙ sym (ap (row_fault q head (k + 1)) rest) ∙ c.loop-k.invariant.fault;

@@ -1,9 +1,9 @@
 use Rattle.std.proofs.Common.{Bor, List, ℕ, ◌≡◌, ◌+◌, ◌∙◌, sym, refl, rules, inl, inr, true, map, length, Some, ◌∷◌, []}
-use Rattle.std.proofs.Common.{ap, arith, lit<}
+use Rattle.std.proofs.Common.{arith, lit<}
 use Rattle.std.specs.Result.{is_ok}
 use Rattle.std.proofs.lemmas.List.{map-append, length_push, length-map}
 use Rattle.csv.specs.Reading.{Reached, default_config, strip_bom}
-use Rattle.csv.specs.Records.{Row, fields_of}
+use Rattle.csv.specs.Records.{fields_of}
 use Rattle.csv.specs.declared.parser.State.TheVariants as st
 use Rattle.csv.proofs.ReadFacts.{rows-end, rows-more}
 use Rattle.fx_judge.proofs.Reached.{whole_text, front_of_text}
@@ -39,7 +39,7 @@ loop-record-preserved c =
     (fields_of c.in-Ok.record) default_config st.StartRecord (strip_bom c.args.text.now) inv.4
     (map fields_of c.loop-record.records.items) inv.3 inv.5 inv.6 s.0 in
     let long : length c.push.new.self.items ≡ length c.loop-record.records.items + 1 =
-    ap (λ (l : List Row). length l) items ∙ length_push c.loop-record.records.items c.in-Ok.record in (
+    cc (length_push c.loop-record.records.items c.in-Ok.record) in (
       s.0.3 ∙ inv.0,
       inl s.1,
       s.2,
@@ -47,7 +47,7 @@ loop-record-preserved c =
       m.0,
       m.1,
       rw (items, map-append fields_of c.loop-record.records.items (c.in-Ok.record ∷ [])) m.2,
-      omega (arith, long, inv.7, c.push.new.self.ok.0, c.len.ensures, c.if-len-eq4098.false),
+      omega arith,
     )
 
 pub returns-then-len-eq4098 : goal.returns-then-len-eq4098
@@ -63,8 +63,7 @@ returns-then-len-eq4098 c =
     (map fields_of c.push.new.self.items) c.next.new.self.rdr.state m.0 =
     rw (items, map-append fields_of c.loop-record.records.items (c.in-Ok.record ∷ [])) m.2 in
     front_of_text c.args.text.now (map fields_of c.push.new.self.items) c.next.new.self.rdr.state m.0 4098 reached
-    (length-map c.push.new.self.items fields_of ∙ omega
-    (arith, c.push.new.self.ok.0, c.len.ensures, c.if-len-eq4098.true))
+    (length-map c.push.new.self.items fields_of ∙ omega arith)
 
 pub returns : goal.returns
 returns c =
@@ -75,4 +74,4 @@ returns c =
     default_config inv.4 inv.3 inv.5 s in
     whole_text c.args.text.now (map fields_of c.loop-record.records.items) c.loop-record.record-iterator.rdr.state inv.4
     4098 inv.6 none
-    (omega (arith, length-map c.loop-record.records.items fields_of, inv.7))
+    (omega (arith, length-map c.loop-record.records.items fields_of))

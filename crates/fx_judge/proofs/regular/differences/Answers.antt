@@ -10,15 +10,15 @@ use Rattle.fx_judge.proofs.regular.differences.Goals as goal
 
 pub loop-i-preserved : goal.loop-i-preserved
 loop-i-preserved c =
-    let q : ℕ = c.args.plan.now.q in
-    let s : ℕ = length c.args.plan.now.names in
-    let rows : List (List ℕ) = c.args.plan.now.rows in
-    let i : ℕ = c.loop-i.i in
+    let q = c.args.plan.now.q in
+    let s = length c.args.plan.now.names in
+    let rows = c.args.plan.now.rows in
+    let i = c.loop-i.i in
     let f = is_order-field q c.field-field.ensures.valid.order in
     let low : i < length rows = omega arith in
-    let field : c.field-field.result ≡ q = c.field-field.ensures.field in
+    let field = c.field-field.ensures.field in
     let x : c.copy_of-d.result ≡ get_or rows i [] = c.copy_of-d.ensures ∙ c.row.ensures.row in
-    let m : c.neg-minus_one.result ≡ neg q 1 = c.neg-minus_one.ensures.negative ∙ ap (λ (k : ℕ). neg k 1) field in
+    let m : c.neg-minus_one.result ≡ neg q 1 = cc c.neg-minus_one.ensures.negative in
     let is : c.add_scaled.new.self ≡ get_or (row_differences q rows) i [] =
     c.add_scaled.ensures.sum
     ∙ ap (λ (k : ℕ). plus k c.copy_of-d.result (scale k c.neg-minus_one.result c.row-in-loop-i.result.now)) field
@@ -26,10 +26,9 @@ loop-i-preserved c =
     ∙ ap (λ (v : List ℕ). plus q (get_or rows i []) (scale q (neg q 1) v)) c.row-in-loop-i.ensures.row
     ∙ sym (differences_at q f rows i low) in
     let long : length c.copy_of-d.result ≡ s =
-    ap (λ (l : List ℕ). length l) c.copy_of-d.ensures ∙ c.row.ensures.vector.len in
+    cc (c.copy_of-d.ensures, c.row.ensures.vector.len) in
     let vector : IsVector q s c.add_scaled.new.self =
-    subst (λ (n : ℕ). IsVector q n c.add_scaled.new.self) long
-    (subst (λ (k : ℕ). IsVector k (length c.copy_of-d.result) c.add_scaled.new.self) field
+    rw long at (subst (λ (k : ℕ). IsVector k (length c.copy_of-d.result) c.add_scaled.new.self) field
     c.add_scaled.ensures.vector) in
     record {
       so_far =
@@ -43,7 +42,7 @@ loop-i-preserved c =
 
 pub returns-clause-list : goal.returns-clause-list
 returns-clause-list c =
-    let q : ℕ = c.args.plan.now.q in
-    let rows : List (List ℕ) = c.args.plan.now.rows in
+    let q = c.args.plan.now.q in
+    let rows = c.args.plan.now.rows in
     let f = is_order-field q c.field-field.ensures.valid.order in
     c.loop-i.invariant.so_far ∙ take_all c.loop-i.i (row_differences q rows) (omega (arith, differences_len q f rows))

@@ -1,9 +1,8 @@
-use Rattle.std.proofs.Common.{rules, ℕ, ◌≡◌, ◌<◌, ◌≤◌, ◌++◌, ◌∷◌, [], ◌∙◌, Bool, true, false, List, length, get_or}
+use Rattle.std.proofs.Common.{rules, ℕ, ◌≡◌, ◌<◌, ◌++◌, ◌∷◌, [], ◌∙◌, true, false, List, length, get_or}
 use Rattle.std.proofs.Common.{Option, Some, None, refl, sym, subst, ap, ap₂, arith, replicate}
 use Rattle.std.proofs.lemmas.List.{get_or_read}
 use Rattle.fx_designs.specs.Vectors.{zeros}
 use Rattle.fx_laws.proofs.Tables.{is_order-field}
-use Rattle.fx_judge.specs.declared.rule.Rule.{Rule}
 use Rattle.fx_judge.specs.Bases.{column}
 use Rattle.fx_judge.specs.Rules.{basic_among, combination_for, rule_by}
 use Rattle.fx_judge.proofs.Bases.{IsStage}
@@ -18,8 +17,8 @@ loop-i-init c =
     let f = is_order-field c.args.plan.now.q c.names-s.ensures.valid.order in
     let z = plan_zeros c.args.plan.now c.names-s.ensures.valid c.in_ok-differences.differences
     c.in_ok-differences.ensures.list in
-    let q : ℕ = c.args.plan.now.q in
-    let s : ℕ = length c.args.plan.now.names in
+    let q = c.args.plan.now.q in
+    let s = length c.args.plan.now.names in
     record {
       stage =
           subst (λ (r : List (List ℕ)). IsStage q s c.in_ok-differences.differences r [] 0)
@@ -59,7 +58,7 @@ direction-e-requires-clause-off c =
     c.in_ok-differences.ensures.list in
     let low : c.loop-i.i < length c.args.plan.now.names =
     omega (arith, ap (λ (l : List (List ℕ)). length l) c.names-s.ensures.names) in
-    let D : List (List ℕ) = c.in_ok-differences.differences in
+    let D = c.in_ok-differences.differences in
     let d = get_or_read D c.in-Some.k c.get.result.now c.in-Some.ensures.there c.get.ensures [] in
     off_positive c.args.plan.now.q f (length c.args.plan.now.names) D c.loop-i.rows c.loop-i.i
     c.in_ok-differences.ensures.each c.loop-i.invariant.stage low z
@@ -73,7 +72,7 @@ grown-requires-clause-vector c =
     c.in_ok-differences.ensures.list in
     let low : c.loop-i.i < length c.args.plan.now.names =
     omega (arith, ap (λ (l : List (List ℕ)). length l) c.names-s.ensures.names) in
-    let D : List (List ℕ) = c.in_ok-differences.differences in
+    let D = c.in_ok-differences.differences in
     let d = get_or_read D c.in-Some.k c.get.result.now c.in-Some.ensures.there c.get.ensures [] in
     direction_fits c.args.plan.now.q f (length c.args.plan.now.names) D c.loop-i.rows c.loop-i.i
     c.in_ok-differences.ensures.each c.loop-i.invariant.stage low z
@@ -88,7 +87,7 @@ grown-requires-clause-each c =
     c.in_ok-differences.ensures.list in
     let low : c.loop-i.i < length c.args.plan.now.names =
     omega (arith, ap (λ (l : List (List ℕ)). length l) c.names-s.ensures.names) in
-    let D : List (List ℕ) = c.in_ok-differences.differences in
+    let D = c.in_ok-differences.differences in
     let d = get_or_read D c.in-Some.k c.get.result.now c.in-Some.ensures.there c.get.ensures [] in
     rows_fit c.args.plan.now.q f (length c.args.plan.now.names) D c.loop-i.rows c.loop-i.i
     c.in_ok-differences.ensures.each c.loop-i.invariant.stage low z
@@ -103,7 +102,7 @@ grown-requires-clause-there c =
     c.in_ok-differences.ensures.list in
     let low : c.loop-i.i < length c.args.plan.now.names =
     omega (arith, ap (λ (l : List (List ℕ)). length l) c.names-s.ensures.names) in
-    let D : List (List ℕ) = c.in_ok-differences.differences in
+    let D = c.in_ok-differences.differences in
     let d = get_or_read D c.in-Some.k c.get.result.now c.in-Some.ensures.there c.get.ensures [] in
     let long =
     direction_long c.args.plan.now.q f (length c.args.plan.now.names) D c.loop-i.rows c.loop-i.i
@@ -111,7 +110,7 @@ grown-requires-clause-there c =
     c.field.result c.column-u.result c.field.ensures.field c.column-u.ensures c.in-Some.k c.in-Some.ensures
     c.field-in-Some.result c.get.result.now c.field-in-Some.ensures.field d
     c.direction-e.result c.direction-e.ensures in
-    omega (arith, long, low)
+    omega arith
 
 pub loop-i-preserved : goal.loop-i-preserved
 loop-i-preserved c =
@@ -120,17 +119,17 @@ loop-i-preserved c =
     c.in_ok-differences.ensures.list in
     let low : c.loop-i.i < length c.args.plan.now.names =
     omega (arith, ap (λ (l : List (List ℕ)). length l) c.names-s.ensures.names) in
-    let q : ℕ = c.args.plan.now.q in
-    let s : ℕ = length c.args.plan.now.names in
-    let plan : List (List ℕ) = c.args.plan.now.rows in
-    let D : List (List ℕ) = c.in_ok-differences.differences in
-    let i : ℕ = c.loop-i.i in
-    let rows : List (List ℕ) = c.loop-i.rows in
+    let q = c.args.plan.now.q in
+    let s = length c.args.plan.now.names in
+    let plan = c.args.plan.now.rows in
+    let D = c.in_ok-differences.differences in
+    let i = c.loop-i.i in
+    let rows = c.loop-i.rows in
     let hd = c.in_ok-differences.ensures.each in
     let stage = c.loop-i.invariant.stage in
-    let some : 0 < length plan = omega (arith, c.names-s.ensures.valid.some_rows) in
+    let some : 0 < length plan = omega arith in
     let told = λ (o : Option (List ℕ)) (e : combination_for q s D (basic_among q s D i) i ≡ o).
-    subst (λ (D : List (List ℕ)). combination_for q s D (basic_among q s D i) i ≡ o) c.in_ok-differences.ensures.list e
+    (rw c.in_ok-differences.ensures.list at e)
     in
     elim c.match-exception.branch [
       | in-None+in_ok-push-in-None w ↦
@@ -143,17 +142,22 @@ loop-i-preserved c =
             stage = on_none q f s D rows i hd stage low z c.field.result c.column-u.result c.field.ensures.field
                 c.column-u.ensures c.match-exception.rows w.in-None.ensures w.rows-is;
             basic =
-                pushed-false ∙ ap (λ (l : List Bool). l ++ false ∷ []) c.loop-i.invariant.basic
-                ∙ mark_more q s D i false (Some (column i rows))
-                (none_found q f s D rows i hd stage low z c.field.result c.column-u.result c.field.ensures.field
-                c.column-u.ensures w.in-None.ensures) refl;
+                cc (
+                  c.loop-i.invariant.basic,
+                  mark_more q s D i false (Some (column i rows))
+                      (none_found q f s D rows i hd stage low z c.field.result c.column-u.result c.field.ensures.field
+                      c.column-u.ensures w.in-None.ensures) refl,
+                );
             found =
-                w.found-is ∙ w.in_ok-push-in-None.ensures.ok ∙ ap (λ (l : List Rule). l ++ w.rule_by.result ∷ [])
-                c.loop-i.invariant.found
-                ∙ rule_more q s plan i (column i rows) w.rule_by.result some
-                (told (Some (column i rows))
-                (none_found q f s D rows i hd stage low z c.field.result c.column-u.result c.field.ensures.field
-                c.column-u.ensures w.in-None.ensures)) rule;
+                cc (
+                  w.found-is,
+                  w.in_ok-push-in-None.ensures.ok,
+                  c.loop-i.invariant.found,
+                  rule_more q s plan i (column i rows) w.rule_by.result some
+                      (told (Some (column i rows))
+                      (none_found q f s D rows i hd stage low z c.field.result c.column-u.result c.field.ensures.field
+                      c.column-u.ensures w.in-None.ensures)) rule,
+                );
           }
       | in-Some+in_ok-rows-in-Some w ↦
           let pushed-true : c.match-exception.basic.items ≡ c.loop-i.basic.items ++ true ∷ [] = search rules in
@@ -166,10 +170,12 @@ loop-i-preserved c =
                 w.field-in-Some-2.result c.match-exception.rows w.field-in-Some-2.ensures.field
                 (w.rows-is ∙ w.in_ok-rows-in-Some.ensures);
             basic =
-                pushed-true ∙ ap (λ (l : List Bool). l ++ true ∷ []) c.loop-i.invariant.basic
-                ∙ mark_more q s D i true None
-                (some_none q f s D rows i hd stage low z c.field.result c.column-u.result c.field.ensures.field
-                c.column-u.ensures w.in-Some.k w.in-Some.ensures) refl;
+                cc (
+                  c.loop-i.invariant.basic,
+                  mark_more q s D i true None
+                      (some_none q f s D rows i hd stage low z c.field.result c.column-u.result c.field.ensures.field
+                      c.column-u.ensures w.in-Some.k w.in-Some.ensures) refl,
+                );
             found =
                 w.found-is ∙ c.loop-i.invariant.found
                 ∙ no_rule q s plan i
@@ -182,27 +188,24 @@ loop-i-preserved c =
 pub push-requires-in-None : goal.push-requires-in-None
 push-requires-in-None c =
     let long : length c.loop-i.basic.items ≡ c.loop-i.i =
-    ap (λ (l : List Bool). length l) c.loop-i.invariant.basic
-    ∙ ap (λ (l : List Bool). length l) (sym c.loop-i.invariant.stage.basics) ∙ c.loop-i.invariant.stage.marks in
-    let few : length c.args.plan.now.names ≤ 40 = c.names-s.ensures.valid.factors in
+    cc (c.loop-i.invariant.basic, c.loop-i.invariant.stage.basics, c.loop-i.invariant.stage.marks) in
+    let few = c.names-s.ensures.valid.factors in
     let low : c.loop-i.i < length c.args.plan.now.names =
     omega (arith, ap (λ (l : List (List ℕ)). length l) c.names-s.ensures.names) in
-    omega (arith, long, few, low)
+    omega arith
 
 pub push-requires-in-Some : goal.push-requires-in-Some
 push-requires-in-Some c =
     let long : length c.loop-i.basic.items ≡ c.loop-i.i =
-    ap (λ (l : List Bool). length l) c.loop-i.invariant.basic
-    ∙ ap (λ (l : List Bool). length l) (sym c.loop-i.invariant.stage.basics) ∙ c.loop-i.invariant.stage.marks in
-    let few : length c.args.plan.now.names ≤ 40 = c.names-s.ensures.valid.factors in
+    cc (c.loop-i.invariant.basic, c.loop-i.invariant.stage.basics, c.loop-i.invariant.stage.marks) in
+    let few = c.names-s.ensures.valid.factors in
     let low : c.loop-i.i < length c.args.plan.now.names =
     omega (arith, ap (λ (l : List (List ℕ)). length l) c.names-s.ensures.names) in
-    omega (arith, long, few, low)
+    omega arith
 
 pub returns-clause-basic : goal.returns-clause-basic
 returns-clause-basic c =
-    let q : ℕ = c.args.plan.now.q in
-    let s : ℕ = length c.args.plan.now.names in
+    let q = c.args.plan.now.q in
+    let s = length c.args.plan.now.names in
     let end : c.loop-i.i ≡ s = omega (arith, ap (λ (l : List (List ℕ)). length l) c.names-s.ensures.names) in
-    c.loop-i.invariant.basic ∙ ap (basic_among q s c.in_ok-differences.differences) end
-    ∙ ap (λ (D : List (List ℕ)). basic_among q s D s) c.in_ok-differences.ensures.list
+    cc (c.loop-i.invariant.basic, c.in_ok-differences.ensures.list)

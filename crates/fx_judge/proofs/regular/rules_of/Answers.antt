@@ -1,9 +1,6 @@
-use Rattle.std.proofs.Common.{ℕ, List, length, sym, subst, arith}
-use Rattle.std.specs.List.{All}
+use Rattle.std.proofs.Common.{length, arith}
 use Rattle.std.proofs.lemmas.Bool.{both_ways}
 use Rattle.fx_vectors.proofs.Limits.{order-bounds}
-use Rattle.fx_judge.specs.declared.rule.Rule.{Rule}
-use Rattle.fx_judge.specs.Rules.{IsRuleOver}
 use Rattle.fx_judge.proofs.Regulars.{each_fits, even_within, none_if_uneven, rules_if_even, rules_over}
 use Rattle.fx_judge.proofs.regular.rules_of.Goals as goal
 
@@ -28,9 +25,9 @@ returns-then-are_even-clause-rules c =
 
 pub returns-then-are_even-clause-each : goal.returns-then-are_even-clause-each
 returns-then-are_even-clause-each c =
-    let q : ℕ = c.args.plan.now.q in
-    let s : ℕ = length c.args.plan.now.names in
-    subst (λ (l : List Rule). All (IsRuleOver s) l) (sym c.in_ok-differences.ensures.rules)
+    let q = c.args.plan.now.q in
+    let s = length c.args.plan.now.names in
+    rw c.in_ok-differences.ensures.rules
     (rules_over q s c.args.plan.now.rows (omega (arith, order-bounds q c.field.ensures.valid.order)))
 
 pub returns-clause-rules : goal.returns-clause-rules

@@ -1,4 +1,4 @@
-use Rattle.std.proofs.Common.{ℕ, ◌≡◌, ◌<◌, ◌+◌, ◌*◌, ◌∙◌, List, length, map, get_or, [], sym, ap, ap₂, arith}
+use Rattle.std.proofs.Common.{ℕ, ◌≡◌, ◌<◌, ◌+◌, ◌*◌, List, length, map, get_or, [], arith}
 use Rattle.std.proofs.lemmas.List.{length-map}
 use Rattle.fx_designs.specs.Vectors.{dot}
 use Rattle.fx_vectors.proofs.Limits.{order-bounds}
@@ -10,20 +10,18 @@ loop-i-init c = counted_none 81
 
 pub loop-i-preserved : goal.loop-i-preserved
 loop-i-preserved c =
-    let q : ℕ = c.args.plan.now.q in
-    let rows : List (List ℕ) = c.args.plan.now.rows in
-    let i : ℕ = c.loop-i.i in
+    let q = c.args.plan.now.q in
+    let rows = c.args.plan.now.rows in
+    let i = c.loop-i.i in
     let f : List ℕ → ℕ = λ x. 9 * dot q c.args.u.now x + dot q c.args.v.now x in
     let nine = (order-bounds q c.len-i-end.ensures.valid.order).1 in
     let there : i < length rows = omega arith in
     let a : c.from-a.result ≡ dot q c.args.u.now (get_or rows i []) =
-    c.from-a.ensures ∙ c.dot.ensures.product ∙ ap (λ (q : ℕ). dot q c.args.u.now c.row.result.now)
-    c.field-field.ensures.field ∙ ap (dot q c.args.u.now) c.row.ensures.row in
+    cc (c.from-a.ensures, c.dot.ensures.product, c.field-field.ensures.field, c.row.ensures.row) in
     let b : c.from-b.result ≡ dot q c.args.v.now (get_or rows i []) =
-    c.from-b.ensures ∙ c.dot-in-loop-i.ensures.product ∙ ap (λ (q : ℕ). dot q c.args.v.now c.row-in-loop-i.result.now)
-    c.field-field.ensures.field ∙ ap (dot q c.args.v.now) c.row-in-loop-i.ensures.row in
+    cc (c.from-b.ensures, c.dot-in-loop-i.ensures.product, c.field-field.ensures.field, c.row-in-loop-i.ensures.row) in
     counted_more 81 (map f rows) c.loop-i.pairs i (9 * c.from-a.result + c.from-b.result)
-    (rw (length-map rows f) there) (value_at f rows i [] there ∙ ap₂ (λ (a b : ℕ). 9 * a + b) (sym a) (sym b))
+    (rw (length-map rows f) there) (cc (value_at f rows i [] there))
     (omega (
       arith,
       c.dot.ensures.code,

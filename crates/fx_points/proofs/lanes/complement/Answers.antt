@@ -1,5 +1,4 @@
-use Rattle.std.proofs.Common.{ℕ, ◌≡◌, ◌<◌, ◌-◌, ◌^◌, ◌%◌, ◌/◌, bit_xor, get_or, replicate, refl, ap, ◌∙◌, arith}
-use Rattle.std.specs.Int.{bit_at}
+use Rattle.std.proofs.Common.{ℕ, ◌≡◌, ◌<◌, ◌-◌, ◌^◌, ◌%◌, ◌/◌, bit_xor, get_or, replicate, refl, arith}
 use Rattle.std.proofs.lemmas.Nat.{xor_lt}
 use Rattle.std.proofs.lemmas.Simd.{get_or-zip2, get_or-replicate}
 use Rattle.fx_points.proofs.LastOnes.{words_of_lanes, flipped}
@@ -15,7 +14,9 @@ returns-clause-words c =
 
 pub returns-clause-bits : goal.returns-clause-bits
 returns-clause-bits c x low =
-    ap (λ w. bit_at w (x % 64))
-    (get_or-zip2 bit_xor c.args.words (replicate 16 (2 ^ 64 - 1)) (x / 64) 0 0 0 (omega (arith, c.requires.words.len))
-    (omega arith) ∙ ap (bit_xor (get_or c.args.words (x / 64) 0)) (ones (x / 64) (omega arith)))
-    ∙ flipped (get_or c.args.words (x / 64) 0) (x % 64) (omega arith)
+    cc (
+      get_or-zip2 bit_xor c.args.words (replicate 16 (2 ^ 64 - 1)) (x / 64) 0 0 0
+          (omega (arith, c.requires.words.len)) (omega arith),
+      ones (x / 64) (omega arith),
+      flipped (get_or c.args.words (x / 64) 0) (x % 64) (omega arith),
+    )

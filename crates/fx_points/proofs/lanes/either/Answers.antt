@@ -1,5 +1,4 @@
-use Rattle.std.proofs.Common.{◌%◌, ◌/◌, eqb, bit_or, ap, ◌∙◌, arith}
-use Rattle.std.specs.Int.{bit_at}
+use Rattle.std.proofs.Common.{◌%◌, ◌/◌, bit_or, arith}
 use Rattle.std.proofs.lemmas.Nat.{or_lt}
 use Rattle.std.proofs.lemmas.Simd.{get_or-zip2}
 use Rattle.fx_points.proofs.Words.{or_bit}
@@ -13,7 +12,8 @@ returns-clause-words c =
 
 pub returns-clause-either : goal.returns-clause-either
 returns-clause-either c x low =
-    ap (λ w. eqb (bit_at w (x % 64)) 1)
-    (get_or-zip2 bit_or c.args.words c.args.others (x / 64) 0 0 0 (omega (arith, c.requires.words.len))
-    (omega (arith, c.requires.others.len)))
-    ∙ or_bit _ _ (x % 64)
+    cc (
+      get_or-zip2 bit_or c.args.words c.args.others (x / 64) 0 0 0 (omega (arith, c.requires.words.len))
+          (omega (arith, c.requires.others.len)),
+      or_bit _ _ (x % 64),
+    )

@@ -1,5 +1,4 @@
-use Rattle.std.proofs.Common.{ℕ, ◌*◌, ◌/◌, ◌%◌, ◌^◌, bit_and, bit_or, ap, ◌∙◌, slice_index, arith}
-use Rattle.std.specs.Int.{bit_at}
+use Rattle.std.proofs.Common.{◌*◌, ◌%◌, ◌^◌, slice_index, arith}
 use Rattle.fx_points.specs.declared.swap.TheConstants.{HALVES}
 use Rattle.fx_points.proofs.Bits.{exchange}
 use Rattle.fx_points.proofs.LastOnes.{shift_fits}
@@ -13,9 +12,11 @@ returns-clause-words c =
 
 pub returns-clause-bits : goal.returns-clause-bits
 returns-clause-bits c k i hk hi =
-    let b : ℕ = c.args.b in
-    let h : ℕ = slice_index HALVES b in
-    let w : ℕ = slice_index c.args.words k in
-    ap (λ v. bit_at v i) (lane_of c.args.words h (1 * 2 ^ b % 2 ^ 64) c.requires.words.len k hk)
-    ∙ ap (λ s. bit_at (bit_or (bit_and w h * 2 ^ s % 2 ^ 64) (bit_and (w / 2 ^ s) h)) i)
-    (shift_fits b (let low = c.requires.bit in omega arith)) ∙ exchange w b i c.requires.bit hi
+    let b = c.args.b in
+    let h = slice_index HALVES b in
+    let w = slice_index c.args.words k in
+    cc (
+      lane_of c.args.words h (1 * 2 ^ b % 2 ^ 64) c.requires.words.len k hk,
+      shift_fits b (let low = c.requires.bit in omega arith),
+      exchange w b i c.requires.bit hi,
+    )

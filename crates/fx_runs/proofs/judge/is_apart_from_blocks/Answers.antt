@@ -1,4 +1,4 @@
-use Rattle.std.proofs.Common.{◌≤◌, ◌&&◌, Bool, not, eqb, length, ◌∙◌, ap, arith}
+use Rattle.std.proofs.Common.{◌≤◌, ◌&&◌, not, eqb, length, ◌∙◌, arith}
 use Rattle.fx_designs.specs.Vectors.{is_zero}
 use Rattle.fx_designs.specs.Demands.{effect_of}
 use Rattle.fx_vectors.proofs.Limits.{order-bounds}
@@ -18,4 +18,4 @@ returns c =
     (λ f. not (is_zero f) && eqb c.args.e (effect_of f))
     (λ f h.
     let few : length f ≤ MOST_FACTORS = omega (arith, h.len, valid.shaped.factors) in
-    ap (λ (b : Bool). not (is_zero f) && b) (c.of_effect.ensures f few))
+    cc (c.of_effect.ensures f few))

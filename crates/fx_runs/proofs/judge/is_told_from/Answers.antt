@@ -1,7 +1,6 @@
-use Rattle.std.proofs.Common.{◌≤◌, ◌&&◌, Bool, not, length, ◌∙◌, ap, arith}
+use Rattle.std.proofs.Common.{◌≤◌, ◌&&◌, not, length, ◌∙◌, arith}
 use Rattle.fx_designs.specs.Vectors.{is_zero}
 use Rattle.fx_designs.specs.Demands.{effect_of}
-use Rattle.fx_vectors.specs.declared.shape.Shape.{Shape}
 use Rattle.fx_vectors.proofs.Limits.{order-bounds}
 use Rattle.fx_runs.specs.declared.walk.Within.TheVariants.{AllRuns}
 use Rattle.fx_vectors.specs.Supports.{differs}
@@ -22,6 +21,4 @@ returns-clause-balanced c =
     (λ f. not (is_zero f) && differs shape.q c.args.u c.args.v (effect_of f))
     (λ f h.
     let few : length f ≤ MOST_FACTORS = omega (arith, h.len, valid.shaped.factors) in
-    ap (λ (b : Bool). not (is_zero f) && b)
-    (c.of_differences.ensures f few ∙ ap (λ (z : Shape). differs z.q c.args.u c.args.v (effect_of f))
-    c.shape.ensures.shape))
+    cc (c.of_differences.ensures f few, c.shape.ensures.shape))

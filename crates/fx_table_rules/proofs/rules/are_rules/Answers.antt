@@ -5,8 +5,9 @@ use Rattle.std.proofs.lemmas.List.{take_more}
 use Rattle.fx_tree.specs.Introduced.{introduced}
 use Rattle.fx_rules.specs.Stepped.{IsStepped}
 use Rattle.fx_rules.proofs.Stepping.{introduced_snoc}
-use Rattle.fx_table_rules.proofs.Stepping.{stepped_snoc, next_unit}
+use Rattle.fx_table_rules.proofs.Stepping.{next_unit}
 use Rattle.fx_table_rules.proofs.rules.are_rules.Goals as goal
+use Rattle.fx_rules.proofs.Kept.{stepped_snoc}
 
 pub loop-i-preserved : goal.loop-i-preserved
 loop-i-preserved c =

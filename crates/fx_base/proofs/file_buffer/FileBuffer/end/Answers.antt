@@ -1,5 +1,4 @@
-use Rattle.std.proofs.Common.{List, sym, ◌∙◌, ap}
-use Rattle.fx_base.specs.Acts.{File}
+use Rattle.std.proofs.Common.{sym, ◌∙◌, ap}
 use Rattle.fx_base.specs.Memory.{FilesInMemory, has_open, room_of}
 use Rattle.fx_base.proofs.Flat.{end_keeps, files_closed}
 use Rattle.fx_base.proofs.Room.{open_ended, room_ended}
@@ -12,7 +11,7 @@ invariant_of-self c =
 
 pub returns-clause-after : goal.returns-clause-after
 returns-clause-after c = rw (← c.self.view_is, c.in-Some.ensures.items, c.push_reserved.ensures.items)
-    (ap (λ (files : List File). record { files = files; room = c.self.inside.room }) (files_closed _ _ _))
+    (cc (files_closed _ _ _))
 
 pub returns-clause-ended : goal.returns-clause-ended
 returns-clause-ended c =

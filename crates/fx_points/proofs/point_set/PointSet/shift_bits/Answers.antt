@@ -1,4 +1,4 @@
-use Rattle.std.proofs.Common.{◌/◌, ◌%◌, ℕ, bit_xor, eqb, arith, ap, sym, ◌∙◌, slice_index, inl, inr}
+use Rattle.std.proofs.Common.{◌/◌, ◌%◌, bit_xor, eqb, arith, ap, sym, ◌∙◌, slice_index, inl, inr}
 use Rattle.std.specs.Int.{bit_at}
 use Rattle.std.proofs.lemmas.Bool.{cases_eq}
 use Rattle.std.proofs.lemmas.Nat.{xor_lt}
@@ -8,11 +8,11 @@ use Rattle.fx_points.proofs.point_set.PointSet.shift_bits.Goals as goal
 
 pub bounds-moved-i : goal.bounds-moved-i
 bounds-moved-i c =
-    xor_block c.loop-i.i c.from-block.result c.loop-i-test.true (omega (arith, c.requires.number, c.from-block.ensures))
+    xor_block c.loop-i.i c.from-block.result c.loop-i-test.true (omega arith)
 
 pub loop-i-preserved : goal.loop-i-preserved
 loop-i-preserved c =
-    let i : ℕ = c.loop-i.i in
+    let i = c.loop-i.i in
     let moved = c.moved_words.result in
     let from = bit_xor i c.from-block.result in
     let len = c.loop-i.invariant.words.len in
@@ -30,14 +30,16 @@ loop-i-preserved c =
 
 pub returns-clause-sums : goal.returns-clause-sums
 returns-clause-sums c y low =
-    let x : ℕ = c.args.x in
+    let x = c.args.x in
     let self = c.self.inside in
     let number = c.requires.number in
-    has_is _ y low ∙ c.loop-i.invariant.done y (omega (arith, low, c.loop-i-test.false))
-    ∙ ap (λ b. eqb b 1)
-    (c.moved_words.ensures.bits (bit_xor (y / 64) c.from-block.result) (y % 64)
-    (xor_block (y / 64) c.from-block.result (omega arith) (omega (arith, c.from-block.ensures))) (omega arith)
-    ∙ ap (λ k. bit_at (slice_index self.words (bit_xor (y / 64) k)) (bit_xor (y % 64) (x % 64))) c.from-block.ensures
-    ∙ ap (λ k. bit_at (slice_index self.words k) (bit_xor (y % 64) (x % 64))) (sym (xor_word y x))
-    ∙ ap (λ k. bit_at (slice_index self.words (bit_xor y x / 64)) k) (sym (xor_place y x)))
-    ∙ sym (has_of c.args.self.now self.field self.m self.words (bit_xor y x) c.self.view_is (xor_lt 10 y x low number))
+    cc (
+      has_is _ y low,
+      c.loop-i.invariant.done y (omega (arith, low, c.loop-i-test.false)),
+      c.moved_words.ensures.bits (bit_xor (y / 64) c.from-block.result) (y % 64)
+          (xor_block (y / 64) c.from-block.result (omega arith) (omega (arith, c.from-block.ensures))) (omega arith),
+      c.from-block.ensures,
+      xor_word y x,
+      xor_place y x,
+      has_of c.args.self.now self.field self.m self.words (bit_xor y x) c.self.view_is (xor_lt 10 y x low number),
+    )

@@ -3,7 +3,7 @@ use Rattle.fx_designs.specs.Galois.{is_order, IsField}
 use Rattle.fx_laws.proofs.Tables.{is_order-field}
 use Rattle.fx_points.specs.Points.{PointsView, IsNoneFrom}
 use Rattle.fx_points.specs.Sums.{sum_of}
-use Rattle.fx_points.proofs.Scatter.{IsIn, in-more, in-skip, in-shift}
+use Rattle.fx_points.proofs.Scatter.{in-more, in-skip, in-shift}
 use Rattle.fx_points.proofs.point_set.PointSet.shift_each.Goals as goal
 
 field_of : (set : PointsView) (q m : ℕ) (known : IsTrue (is_order q)) → q ≡ set.q → IsField set.q
@@ -16,7 +16,7 @@ returns-in-None-clause-sums c y low =
     let f = field_of set c.self.inside.field c.self.inside.m c.q-known.ensures.known
     (ap (λ (v : PointsView). v.q) c.self.view_is) in
     let before : PointsView = record { q = set.q; m = set.m; numbers = [] } in
-    let none : IsNoneFrom set c.loop.from 1024 = c.in-None.ensures.none in
+    let none = c.in-None.ensures.none in
     let runs = c.requires.known in
     let short : IsNoneFrom set c.loop.from (set.q ^ set.m) =
     record { none = λ z lo hi. none.none z lo (omega arith) } in
@@ -33,7 +33,7 @@ returns-then-y-size-clause-sums c y low =
     let next = c.in-Some.ensures.some in
     let size : c.power-size.result ≡ set.q ^ set.m =
     c.power-size.ensures ∙ ap (λ (v : PointsView). v.q ^ v.m) c.self.view_is in
-    let past : set.q ^ set.m ≤ c.in-Some.y = omega (arith, size, c.if-y-size.true) in
+    let past : set.q ^ set.m ≤ c.in-Some.y = omega arith in
     let short : IsNoneFrom set c.loop.from (set.q ^ set.m) =
     record { none = λ z lo hi. next.between.none z lo (omega arith) } in
     let all = in-skip set.q set.m c.args.x before set c.loop.shifted c.loop.from (set.q ^ set.m)
@@ -44,17 +44,17 @@ returns-then-y-size-clause-sums c y low =
 pub loop-preserved : goal.loop-preserved
 loop-preserved c =
     let set = c.args.self.now in
-    let q : ℕ = set.q in
-    let m : ℕ = set.m in
+    let q = set.q in
+    let m = set.m in
     let f = field_of set c.self.inside.field c.self.inside.m c.q-known.ensures.known
     (ap (λ (v : PointsView). v.q) c.self.view_is) in
     let before : PointsView = record { q = q; m = m; numbers = [] } in
-    let y : ℕ = c.in-Some.y in
+    let y = c.in-Some.y in
     let next = c.in-Some.ensures.some in
     let size : c.power-size.result ≡ q ^ m = c.power-size.ensures ∙ ap (λ (v : PointsView). v.q ^ v.m) c.self.view_is in
     let total : c.sum_with.result ≡ sum_of q 1 m y c.args.x =
     c.sum_with.ensures.total ∙ ap (λ (v : PointsView). sum_of v.q 1 v.m y c.args.x) c.self.view_is in
-    let up : IsIn q m c.args.x before set c.loop.shifted y =
+    let up =
     in-skip q m c.args.x before set c.loop.shifted c.loop.from y c.loop.invariant.members next.from next.between in
     record {
       levels = c.insert.ensures.shape.0 ∙ c.loop.invariant.levels;
@@ -74,6 +74,6 @@ returns-clause-sums c y low =
     let size : c.power-size.result ≡ set.q ^ set.m =
     c.power-size.ensures ∙ ap (λ (v : PointsView). v.q ^ v.m) c.self.view_is in
     let ends : c.loop.from ≡ set.q ^ set.m =
-    omega (arith, c.loop.invariant.count, c.loop.invariant.bound, c.loop-test.false, size, c.loop.auto.counter-end) in
+    omega arith in
     in-shift set.q set.m c.args.x f before set c.loop.shifted c.loop.from y c.requires.known (λ x. refl)
     c.loop.invariant.members ends low

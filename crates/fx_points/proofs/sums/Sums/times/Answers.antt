@@ -1,4 +1,4 @@
-use Rattle.std.proofs.Common.{◌≡◌, ◌<◌, ◌-◌, ◌*◌, ◌+◌, ◌^◌, ◌∙◌, ℕ, sym, subst, ap}
+use Rattle.std.proofs.Common.{◌≡◌, ◌-◌, ◌*◌, ◌+◌, ◌^◌, ◌∙◌, subst, ap}
 use Rattle.fx_designs.specs.Galois.{IsField}
 use Rattle.fx_laws.proofs.Tables.{is_order-field}
 use Rattle.fx_demands.proofs.Digits.{sum_below}
@@ -9,18 +9,17 @@ use Rattle.fx_points.proofs.sums.Sums.times.Goals.{After-index}
 
 -- where the multiple stands
 place : (c : After-index)
-    → c.from.result * c.from-2.result + c.from-3.result ≡ (c.args.c - 1) * c.self.inside.field ^ c.self.inside.m + c.args.x
+    → c.from.result * c.from-2.result + c.from-3.result
+    ≡ (c.args.c - 1) * c.self.inside.field ^ c.self.inside.m + c.args.x
 place c =
     let s = c.self.inside in
-    ap (λ k. k * c.from-2.result + c.from-3.result) c.from.ensures
-    ∙ ap (λ k. (c.args.c - 1) * k + c.from-3.result) (c.from-2.ensures ∙ c.self.invariant.size_is)
-    ∙ ap (λ k. (c.args.c - 1) * s.field ^ s.m + k) c.from-3.ensures
+    cc (c.from.ensures, c.from-2.ensures, c.self.invariant.size_is, c.from-3.ensures)
 
 pub returns-clause-multiple : goal.returns-clause-multiple
 returns-clause-multiple c =
     let s = c.self.inside in
-    let code = subst (λ (v : SumsView). c.args.c < v.q) (sym c.self.view_is) c.requires.code in
-    let point = subst (λ (v : SumsView). c.args.x < v.q ^ v.m) (sym c.self.view_is) c.requires.point in
+    let code = rw (← c.self.view_is) at c.requires.code in
+    let point = rw (← c.self.view_is) at c.requires.point in
     multiple_at s.field s.m s.multiples.items c.self.invariant.multiples_len c.self.invariant.multiples_are c.args.c
     c.args.x _ c.index.result.now c.requires.some code point (place (goal.at.returns-clause-multiple c).After-index)
     c.index.ensures
@@ -30,5 +29,4 @@ pub returns-clause-below : goal.returns-clause-below
 returns-clause-below c =
     let f = subst (λ (v : SumsView). IsField v.q) c.self.view_is
     (is_order-field c.self.inside.field c.self.invariant.order) in
-    subst (λ (n : ℕ). n < c.args.self.now.q ^ c.args.self.now.m) (sym (returns-clause-multiple c))
-    (sum_below c.args.self.now.q f c.args.c c.args.self.now.m 0 c.args.x)
+    rw (returns-clause-multiple c) (sum_below c.args.self.now.q f c.args.c c.args.self.now.m 0 c.args.x)

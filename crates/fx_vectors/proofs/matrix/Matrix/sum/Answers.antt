@@ -1,5 +1,5 @@
-use Rattle.std.proofs.Common.{◌≡◌, arith, sym, subst, ◌∙◌, ap, IsTrue}
-use Rattle.fx_designs.specs.Galois.{number, IsField, is_order}
+use Rattle.std.proofs.Common.{◌≡◌, arith, subst, ◌∙◌, ap}
+use Rattle.fx_designs.specs.Galois.{number, IsField}
 use Rattle.fx_designs.specs.Vectors.{IsVector}
 use Rattle.fx_laws.proofs.Tables.{is_order-field}
 use Rattle.fx_laws.proofs.Space.{combination-vector}
@@ -13,7 +13,7 @@ use Rattle.fx_vectors.proofs.matrix.Matrix.sum.Goals.{After-from-m}
 field_of : (c : After-from-m) → IsField c.field-field.result
 field_of c =
     is_order-field c.field-field.result
-    (subst (λ q. IsTrue (is_order q)) (sym c.field-field.ensures) c.self.invariant.shaped.order)
+    (rw c.field-field.ensures c.self.invariant.shaped.order)
 
 pub zero-sum-requires : goal.zero-sum-requires
 zero-sum-requires c = omega (arith, indexes_fit c.self.inside.shape c.self.invariant.shaped)
@@ -64,4 +64,4 @@ returns-clause-sum c =
     let all =
     sum_past c.field-field.result c.from-m.result f c.args.u.now c.args.self.now.rows c.loop-i.i c.loop-i.sum _
     (omega (arith, c.requires.len)) c.loop-i.invariant.vector c.loop-i.invariant.so_far in
-    rw (← q, ← m) (c.number.ensures.number ∙ ap (number c.field-field.result) all)
+    rw (← q, ← m) (cc (c.number.ensures.number, all))

@@ -1,4 +1,4 @@
-use Rattle.std.proofs.Common.{◌≡◌, ℕ, ◌<◌, ◌+◌, ◌*◌, ◌-◌, ◌^◌, drop, get_or, arith, ◌∙◌, ap}
+use Rattle.std.proofs.Common.{◌≡◌, ◌<◌, ◌+◌, ◌*◌, ◌-◌, ◌^◌, drop, get_or, arith, ◌∙◌}
 use Rattle.fx_designs.specs.Galois.{number}
 use Rattle.fx_laws.proofs.Codes.{number-below}
 use Rattle.fx_vectors.proofs.Steps.{number_before, number_fits}
@@ -34,5 +34,5 @@ pub returns-clause-below : goal.returns-clause-below
 returns-clause-below c =
     let none : c.loop-i.i ≡ 0 = omega arith in
     let whole : c.loop-i.number ≡ number c.args.field c.args.self.now =
-    c.loop-i.invariant ∙ ap (λ (i : ℕ). number c.args.field (drop i c.args.self.now)) none in
+    cc (c.loop-i.invariant, none) in
     rw whole (number-below c.args.field _ c.args.self.now c.requires.vector)
