@@ -13,10 +13,10 @@ use Rattle.fx_designs.specs.Outcomes.{Ending, Design, NoDesign, BudgetEnded}
 use Rattle.fx_runs.specs.Runs.{RunsView, design_of}
 use Rattle.fx_settings.specs.declared.settings.Size.{Size}
 use Rattle.fx_settings.specs.declared.settings.Size.TheVariants.{Runs, Minimum}
-use Rattle.fx_settings.specs.declared.settings.Criterion.TheVariants as criterion
+use Rattle.fx_settings.specs.declared.settings.Criterion.{Criterion}
+use Rattle.fx_settings.specs.declared.settings.Criterion.TheVariants.{Effects, Highest, Resolution}
 use Rattle.fx_settings.specs.declared.settings.Blocks.{Blocks}
 use Rattle.fx_settings.specs.declared.settings.Blocks.TheVariants.{Factors, Without}
-use Rattle.fx_statements.specs.Goals.{Goal, AtLeast, Highest, ForEffects}
 use Rattle.fx_statements.specs.Questions.{Conclusion}
 use Rattle.fx_statements.specs.declared.fold.Fold.TheVariants as fold
 use Rattle.fx_statements.specs.Steps.{Meaning, examine_of}
@@ -43,19 +43,19 @@ abbrev in_blocks : ℕ → ℕ → ℕ → ℕ → Dimensions
 in_blocks q m s t = record { q = q; m = m; s = s; t = t }
 
 -- a step of so many factors that asks for this
-abbrev step_in : Blocks → ℕ → Size → Goal → Bool → Meaning
-step_in blocks s size goal least = record {
+abbrev step_in : Blocks → ℕ → Size → Criterion → Bool → Meaning
+step_in blocks s size kind least = record {
   factors = replicate s (codes "A");
   settings =
-      record { q = 2; budget = 1000000; size = size; criterion = criterion.Highest; least = least; blocks = blocks };
-  goal = goal;
+      record { q = 2; budget = 1000000; size = size; criterion = kind; least = least; blocks = blocks };
+  requirement = AtResolution 3;
   examine = examine_of [];
   fold = fold.Without;
   outputs = [];
 }
 
-abbrev step_of : ℕ → Size → Goal → Bool → Meaning
-step_of s size goal least = step_in Without s size goal least
+abbrev step_of : ℕ → Size → Criterion → Bool → Meaning
+step_of s size kind least = step_in Without s size kind least
 
 -- an outcome without a resolution that was reached
 abbrev ended : Dimensions → Ending → Conclusion
@@ -63,19 +63,20 @@ ended d ending = record { dimensions = d; ending = ending; reached = 0 }
 
 -- the step's number, the factors and their levels, how the search ended, and the resolution of its matrix
 heads :
-    (head_lines 12 (step_of 2 (Runs 2) (AtLeast 3) false) (ended (size 3 2 2) (Design (1 ∷ 3 ∷ []) 100))
+    (head_lines 12 (step_of 2 (Runs 2) (Resolution 3) false) (ended (size 3 2 2) (Design (1 ∷ 3 ∷ []) 100))
     ≡ codes "step 12\nfactors 2 levels 3\ndesign 9 runs\nno defining words\nnodes 100\n")
     × (head_lines 1 (step_of 3 (Runs 2) Highest true) (ended (size 2 2 3) (Design (1 ∷ 2 ∷ 3 ∷ []) 3))
     ≡ codes "step 1\nfactors 3 levels 2\ndesign 4 runs\nresolution 3 least aberration\nnodes 3\n")
-    × (head_lines 1 (step_of 3 (Runs 2) (AtLeast 3) false) (ended (size 2 2 3) (Design (1 ∷ 2 ∷ 3 ∷ []) 3))
+    × (head_lines 1 (step_of 3 (Runs 2) (Resolution 3) false) (ended (size 2 2 3) (Design (1 ∷ 2 ∷ 3 ∷ []) 3))
     ≡ codes "step 1\nfactors 3 levels 2\ndesign 4 runs\nresolution 3\nnodes 3\n")
-    × (head_lines 1 (step_of 3 (Runs 2) (ForEffects (1 ∷ []) []) false) (ended (size 2 2 3) (Design (1 ∷ 2 ∷ 3 ∷ []) 3))
+    × (head_lines 1 (step_of 3 (Runs 2) Effects false) (ended (size 2 2 3) (Design (1 ∷ 2 ∷ 3 ∷ []) 3))
     ≡ codes "step 1\nfactors 3 levels 2\ndesign 4 runs\nresolution 3\nnodes 3\n")
-    × (head_lines 1 (step_of 2 (Runs 5) (AtLeast 3) false) (ended (size 4 5 2) (NoDesign 7))
+    × (head_lines 1 (step_of 2 (Runs 5) (Resolution 3) false) (ended (size 4 5 2) (NoDesign 7))
     ≡ codes "step 1\nfactors 2 levels 4\nno design in 1024 runs\nnodes 7\n")
-    × (head_lines 100 (step_of 3 (Runs 1) (AtLeast 3) true) (ended (size 9 1 3) (BudgetEnded None 5000000))
+    × (head_lines 100 (step_of 3 (Runs 1) (Resolution 3) true) (ended (size 9 1 3) (BudgetEnded None 5000000))
     ≡ codes "step 100\nfactors 3 levels 9\nbudget ended after 5000000 nodes\n")
-    × (head_lines 1 (step_of 3 (Runs 2) (AtLeast 3) true) (ended (size 2 2 3) (BudgetEnded (Some (1 ∷ 2 ∷ 3 ∷ [])) 2))
+    × (head_lines 1 (step_of 3 (Runs 2) (Resolution 3) true)
+    (ended (size 2 2 3) (BudgetEnded (Some (1 ∷ 2 ∷ 3 ∷ [])) 2))
     ≡ codes "step 1\nfactors 3 levels 2\nbudget ended after 2 nodes\ndesign 4 runs not proved best\nresolution 3\n")
 unfolding digits prime_of degree_of reduction_of add mul neg runs_of is_constant constant_words pattern_of
 heads = (refl, refl, refl, refl, refl, refl, refl)
@@ -96,14 +97,14 @@ heads_of_highest = (refl, refl, refl)
 
 -- blocks are in the line of a design, and in that of a size that has none
 heads_in_blocks :
-    (head_lines 1 (step_of 3 (Runs 3) (AtLeast 3) false) (ended (in_blocks 2 3 3 1) (Design (1 ∷ 2 ∷ 4 ∷ 7 ∷ []) 4))
+    (head_lines 1 (step_of 3 (Runs 3) (Resolution 3) false) (ended (in_blocks 2 3 3 1) (Design (1 ∷ 2 ∷ 4 ∷ 7 ∷ []) 4))
     ≡ codes "step 1\nfactors 3 levels 2\ndesign 8 runs in 2 blocks\nno defining words\nnodes 4\n")
-    × (head_lines 1 (step_of 3 (Runs 3) (AtLeast 3) false)
+    × (head_lines 1 (step_of 3 (Runs 3) (Resolution 3) false)
     (ended (in_blocks 2 3 3 2) (Design (1 ∷ 2 ∷ 4 ∷ 6 ∷ 5 ∷ []) 111))
     ≡ codes "step 1\nfactors 3 levels 2\ndesign 8 runs in 4 blocks\nno defining words\nnodes 111\n")
-    × (head_lines 1 (step_of 3 (Runs 3) (AtLeast 3) false) (ended (in_blocks 2 3 3 3) (NoDesign 91))
+    × (head_lines 1 (step_of 3 (Runs 3) (Resolution 3) false) (ended (in_blocks 2 3 3 3) (NoDesign 91))
     ≡ codes "step 1\nfactors 3 levels 2\nno design in 8 runs with 8 blocks\nnodes 91\n")
-    × (head_lines 1 (step_of 3 (Runs 3) (AtLeast 3) false)
+    × (head_lines 1 (step_of 3 (Runs 3) (Resolution 3) false)
     (ended (in_blocks 2 3 3 2) (BudgetEnded (Some (1 ∷ 2 ∷ 4 ∷ 6 ∷ 5 ∷ [])) 110))
     ≡ codes "step 1\nfactors 3 levels 2\nbudget ended after 110 nodes\ndesign 8 runs in 4 blocks not proved best\nno defining words\n")
 unfolding digits prime_of degree_of reduction_of add mul neg runs_of is_constant constant_words pattern_of
@@ -120,7 +121,7 @@ heads_of_highest_in_blocks :
     × (head_lines 1 (step_in (Factors 1) 3 (Runs 2) Highest false)
     (record { dimensions = in_blocks 2 2 3 1; ending = BudgetEnded None 9; reached = 0 })
     ≡ codes "step 1\nfactors 3 levels 2\nbudget ended after 9 nodes\n")
-    × (head_lines 1 (step_in (Factors 1) 3 (Runs 3) (AtLeast 4) false)
+    × (head_lines 1 (step_in (Factors 1) 3 (Runs 3) (Resolution 4) false)
     (record { dimensions = in_blocks 2 3 3 1; ending = Design (1 ∷ 2 ∷ 4 ∷ 7 ∷ []) 4; reached = 4 })
     ≡ codes "step 1\nfactors 3 levels 2\ndesign 8 runs in 2 blocks\nno defining words\nnodes 4\n")
 unfolding digits prime_of degree_of reduction_of add mul neg runs_of is_constant constant_words pattern_of
@@ -128,11 +129,12 @@ heads_of_highest_in_blocks = (refl, refl, refl, refl)
 
 -- of the least size: the design is of the first that has one; where none has, there is no word on blocks
 heads_of_least_size :
-    (head_lines 1 (step_of 6 Minimum (AtLeast 4) false) (ended (size 2 4 6) (Design (1 ∷ 2 ∷ 4 ∷ 8 ∷ 14 ∷ 13 ∷ []) 31))
+    (head_lines 1 (step_of 6 Minimum (Resolution 4) false)
+    (ended (size 2 4 6) (Design (1 ∷ 2 ∷ 4 ∷ 8 ∷ 14 ∷ 13 ∷ []) 31))
     ≡ codes "step 1\nfactors 6 levels 2\ndesign 16 runs\nresolution 4\nnodes 31\n")
-    × (head_lines 1 (step_of 2 Minimum (AtLeast 3) false) (ended (size 2 10 2) (NoDesign 50))
+    × (head_lines 1 (step_of 2 Minimum (Resolution 3) false) (ended (size 2 10 2) (NoDesign 50))
     ≡ codes "step 1\nfactors 2 levels 2\nno design in at most 1024 runs\nnodes 50\n")
-    × (head_lines 1 (step_of 2 Minimum (AtLeast 3) false) (ended (in_blocks 3 6 2 4) (NoDesign 50))
+    × (head_lines 1 (step_of 2 Minimum (Resolution 3) false) (ended (in_blocks 3 6 2 4) (NoDesign 50))
     ≡ codes "step 1\nfactors 2 levels 3\nno design in at most 729 runs\nnodes 50\n")
 unfolding digits prime_of degree_of reduction_of add mul neg runs_of is_constant constant_words pattern_of
 heads_of_least_size = (refl, refl, refl)
@@ -235,9 +237,9 @@ marked_classes = (refl, refl, refl)
 
 -- C constant, so A and A*C are aliased; A*B confounded with blocks; a block factor with a run index of its own
 given_heads :
-    (given_head 1 (step_of 3 (Runs 2) (AtLeast 3) false) (matrix_of (size 2 2 3) (1 ∷ 2 ∷ 0 ∷ [])) (Some false)
+    (given_head 1 (step_of 3 (Runs 2) (Resolution 3) false) (matrix_of (size 2 2 3) (1 ∷ 2 ∷ 0 ∷ [])) (Some false)
     ≡ codes "step 1\nfactors 3 levels 2\ndesign 4 runs given\nresolution 1\ndoes not meet the model\nclear 0 of 3 factors, 1 of 3 two-factor interactions\n")
-    × (given_head 2 (step_in (Factors 1) 2 (Runs 2) (AtLeast 3) false)
+    × (given_head 2 (step_in (Factors 1) 2 (Runs 2) (Resolution 3) false)
     (matrix_of (in_blocks 2 2 2 1) (1 ∷ 2 ∷ 3 ∷ [])) (Some true)
     ≡ codes "step 2\nfactors 2 levels 2\ndesign 4 runs in 2 blocks given\nno defining words\nmeets the model\nclear 2 of 2 factors, 0 of 1 two-factor interactions\nconfounded with blocks B2 1\n")
     × (given_head 1 (step_in (Factors 1) 2 (Runs 3) Highest false)

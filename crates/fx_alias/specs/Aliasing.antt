@@ -2,17 +2,17 @@
 use Rattle.std.specs.Prelude.{ℕ, Bool, true, false, if◌then◌else◌, List, [], ◌∷◌, ◌++◌, codes, min}
 use Rattle.std.specs.List.{flat_map}
 use Rattle.fx_designs.specs.Components.{components}
+use Rattle.fx_designs.specs.Problems.{Requirement}
 use Rattle.fx_runs.specs.Runs.{RunsView}
-use Rattle.fx_statements.specs.Goals.{Goal}
 use Rattle.fx_statements.specs.Components.{listed_factors}
 use Rattle.fx_alias.specs.declared.marks.BlockMarks.{BlockMarks}
 use Rattle.fx_alias.specs.Blocked.{is_marked}
 use Rattle.fx_alias.specs.Classes.{classes, constants}
 use Rattle.fx_components.specs.Products.{product}
 
--- the components of s factors that the sections of a step list, by what it wants
-abbrev pub listed_components : ℕ → ℕ → Goal → List (List ℕ)
-listed_components q s goal = components q s (min s (listed_factors goal))
+-- the components of s factors that the sections of a step list, by what it requires
+abbrev pub listed_components : ℕ → ℕ → Requirement → List (List ℕ)
+listed_components q s requirement = components q s (min s (listed_factors requirement))
 
 -- the products of some components, ` = ` before each but the first
 abbrev pub equated_products : List (List ℕ) → Bool → List (List ℕ) → List ℕ

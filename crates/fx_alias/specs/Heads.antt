@@ -1,5 +1,6 @@
 -- The head of a step's listing.
-use Rattle.std.specs.Prelude.{ℕ, ◌^◌, ◌==◌, nat_lt, Bool, false, if◌then◌else◌, List, [], ◌++◌, length, Option, Some}
+use Rattle.std.specs.Prelude.{ℕ, ◌^◌, ◌==◌, nat_lt, not, ◌&&◌, Bool, if◌then◌else◌, List, [], ◌++◌, length, Option}
+use Rattle.std.specs.Prelude.{Some}
 use Rattle.std.specs.Prelude.{None, codes, decimal}
 use Rattle.fx_designs.specs.Problems.{Dimensions}
 use Rattle.fx_designs.specs.Patterns.{pattern_of, resolution_of}
@@ -8,10 +9,10 @@ use Rattle.fx_vectors.specs.Shape.{dimensions_of}
 use Rattle.fx_vectors.specs.Matrix.{MatrixView}
 use Rattle.fx_settings.specs.declared.settings.Size.{Size}
 use Rattle.fx_settings.specs.declared.settings.Size.TheVariants.{Runs, Minimum}
-use Rattle.fx_settings.specs.declared.settings.Blocks.{Blocks}
+use Rattle.fx_settings.specs.declared.settings.StepSettings.{StepSettings}
+use Rattle.fx_settings.specs.Models.{is_highest}
 use Rattle.fx_settings.specs.Powers.{greatest}
 use Rattle.fx_settings.specs.Valid.{has_blocks}
-use Rattle.fx_statements.specs.Goals.{Goal, AtLeast, Highest, ForEffects}
 use Rattle.fx_statements.specs.Questions.{Conclusion}
 use Rattle.fx_statements.specs.Steps.{Meaning}
 
@@ -56,21 +57,18 @@ abbrev pub nodes_line : ℕ → List ℕ
 nodes_line count = codes "nodes " ++ (decimal count ++ codes "\n")
 
 -- that a resolution is the highest, where that is what is wanted; in blocks a line of its own claims it
-abbrev pub highest_claim : Blocks → Goal → List ℕ
-highest_claim blocks (AtLeast r) = []
-highest_claim blocks Highest = if has_blocks blocks then [] else codes " highest"
-highest_claim blocks (ForEffects estimate nonnegligible) = []
+abbrev pub highest_claim : StepSettings → List ℕ
+highest_claim settings =
+    if is_highest settings.criterion && not (has_blocks settings.blocks) then codes " highest" else []
 
 -- what is claimed of the resolution of a step's design: that the pattern is the least, or that it is the highest
 abbrev pub resolution_claim : Meaning → List ℕ
 resolution_claim step =
-    if step.settings.least then codes " least aberration" else highest_claim step.settings.blocks step.goal
+    if step.settings.least then codes " least aberration" else highest_claim step.settings
 
 -- whether the highest resolution is wanted in blocks
-abbrev pub seeks_in_blocks : Blocks → Goal → Bool
-seeks_in_blocks blocks (AtLeast r) = false
-seeks_in_blocks blocks Highest = has_blocks blocks
-seeks_in_blocks blocks (ForEffects estimate nonnegligible) = false
+abbrev pub seeks_in_blocks : StepSettings → Bool
+seeks_in_blocks settings = is_highest settings.criterion && has_blocks settings.blocks
 
 -- the resolution that a design meets with its blocks, and what is claimed of it
 abbrev pub clear_to : List ℕ → ℕ → List ℕ
@@ -78,7 +76,7 @@ clear_to claim r = codes "blocks clear to resolution " ++ (decimal r ++ (claim +
 
 -- this line, where the highest resolution is wanted in blocks
 abbrev pub clear_line : Meaning → List ℕ → ℕ → List ℕ
-clear_line step claim r = if seeks_in_blocks step.settings.blocks step.goal then clear_to claim r else []
+clear_line step claim r = if seeks_in_blocks step.settings then clear_to claim r else []
 
 -- a design, its resolution, with a caveat on the one and a claim on the other, and what its blocks are clear to
 abbrev pub design_lines : List ℕ → List ℕ → List ℕ → Dimensions → List ℕ → List ℕ

@@ -25,9 +25,10 @@ examined marks step matrix =
     (if step.examine.design then design_section step.factors (design_of matrix) else [])
     ++ (if step.examine.aliasing
     then alias_section marks step.factors (design_of matrix)
-    (listed_components matrix.shape.q matrix.shape.s step.goal) else [])
+    (listed_components matrix.shape.q matrix.shape.s step.requirement) else [])
     ++ (if step.examine.blocked
-    then blocked_section step.factors (design_of matrix) (listed_components matrix.shape.q matrix.shape.s step.goal)
+    then blocked_section step.factors (design_of matrix)
+    (listed_components matrix.shape.q matrix.shape.s step.requirement)
     else [])
     ++ (if step.examine.aberration then pattern_lines (pattern_of (dimensions_of matrix.shape) matrix.rows) else [])
 

@@ -3,7 +3,7 @@ ghost use Rattle.std.specs.List.{flat_map};
 ghost use Rattle.fx_designs.specs.Galois.{number};
 ghost use Rattle.fx_designs.specs.Vectors.{IsVector, combination, vectors_of};
 ghost use Rattle.fx_runs.specs.Runs.{design_of};
-ghost use Rattle.fx_statements.specs.Goals.{goal_of};
+ghost use Rattle.fx_vectors.specs.Question.{requirement_of};
 ghost use Rattle.fx_alias.specs.Aliasing.{listed_components};
 ghost use Rattle.fx_alias.specs.BlockSpans.{IsBlockSpan};
 ghost use Rattle.fx_alias.specs.Blocked.{blocked_section, component_line, is_blocked};
@@ -41,7 +41,7 @@ pub fn blocked_listing(
     ensures ok { OnOk result
         (out.new
         ≡ out.old ++ blocked_section step.now.factors (design_of matrix.now)
-        (listed_components matrix.now.shape.q matrix.now.shape.s (goal_of step.now.wanted))) }
+        (listed_components matrix.now.shape.q matrix.now.shape.s (requirement_of step.now.demands))) }
     ensures err { OnErr result (out.new ≡ out.old) }
 {
     let mut lines = Bytes::new(alloc);
@@ -57,9 +57,9 @@ fn put_section(alloc: Global, step: &Step, matrix: &Matrix, out: &mut Bytes) -> 
     ensures { OnOk result
         (out.new
         ≡ out.old ++ blocked_section step.now.factors (design_of matrix.now)
-        (listed_components matrix.now.shape.q matrix.now.shape.s (goal_of step.now.wanted))) }
+        (listed_components matrix.now.shape.q matrix.now.shape.s (requirement_of step.now.demands))) }
 {
-    let components = listed_components(alloc, &step.wanted, matrix.shape())?;
+    let components = listed_components(alloc, &step.demands, matrix.shape())?;
     let span = block_span(matrix);
     let names = lent(alloc, &step.factors)?;
     put(out, b"blocked\n")?;

@@ -32,8 +32,8 @@ pub fn fold_listing(
 ) -> Result<(), NoMemory>
     requires complete { length matrix.now.rows ≡ matrix.now.shape.s + matrix.now.shape.t }
     requires factors { matrix.now.shape.s ≡ length step.now.factors }
-    requires levels { matrix.now.shape.q ≡ step.now.q }
-    requires unblocked { step.now.blocks ≡ Without → matrix.now.shape.t ≡ 0 }
+    requires levels { matrix.now.shape.q ≡ step.now.settings.q }
+    requires unblocked { step.now.settings.blocks ≡ Without → matrix.now.shape.t ≡ 0 }
     ensures ok { OnOk result
         (out.new ≡ out.old ++ fold_section (meaning_of step.now) matrix.now) }
     ensures err { OnErr result (out.new ≡ out.old) }

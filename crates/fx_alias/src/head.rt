@@ -3,7 +3,6 @@ ghost use Rattle.fx_designs.specs.Galois.{is_order};
 ghost use Rattle.fx_settings.specs.Powers.{greatest};
 ghost use Rattle.fx_designs.specs.Patterns.{pattern_of};
 ghost use Rattle.fx_vectors.specs.Shape.{IsShape, dimensions_of};
-ghost use Rattle.fx_statements.specs.Goals.{goal_of};
 ghost use Rattle.fx_statements.specs.Outcomes.{ending_in};
 ghost use Rattle.fx_statements.specs.Questions.{conclusion_in};
 ghost use Rattle.fx_statements.specs.Steps.{meaning_of};
@@ -13,7 +12,7 @@ ghost use Rattle.fx_alias.specs.Heads.{resolution_claim, resolution_line, runs_w
 
 use fx_base::{Bytes, NoMemory, put, put_number};
 use fx_settings::greatest;
-use fx_statements::{Blocks, End, Outcome, Size, Step, Wanted};
+use fx_statements::{End, Outcome, Size, Step, StepSettings};
 use fx_vectors::{Matrix, Pattern, Shape};
 use fx_words::{pattern_of, resolution};
 use std::alloc::Global;
@@ -94,7 +93,7 @@ fn put_outcome(
             put_nodes(out, outcome.nodes)
         }
         End::NoDesign => {
-            put_no_design(out, step.size, outcome.shape)?;
+            put_no_design(out, step.settings.size, outcome.shape)?;
             put_nodes(out, outcome.nodes)
         }
         End::Budget => {
@@ -212,7 +211,7 @@ fn put_matrix(
 fn put_clear(out: &mut Bytes, step: &Step, claim: &[u8], r: u8) -> Result<(), NoMemory>
     ensures { OnOk result (out.new ≡ out.old ++ clear_line (meaning_of step.now) claim.now r) }
 {
-    if seeks_in_blocks(&step.wanted, step.blocks) {
+    if seeks_in_blocks(step.settings) {
         return put_clear_to(out, claim, r);
     }
     Ok(())
@@ -229,13 +228,10 @@ fn put_clear_to(out: &mut Bytes, claim: &[u8], r: u8) -> Result<(), NoMemory>
 }
 
 /// Whether the highest resolution is wanted in blocks.
-fn seeks_in_blocks(wanted: &Wanted, blocks: Blocks) -> bool
-    ensures { result ≡ seeks_in_blocks blocks (goal_of wanted.now) }
+fn seeks_in_blocks(settings: StepSettings) -> bool
+    ensures { result ≡ seeks_in_blocks settings }
 {
-    match wanted {
-        Wanted::Highest => blocks.are_some(),
-        Wanted::Resolution { .. } | Wanted::Effects { .. } => false,
-    }
+    settings.criterion.is_highest() && settings.blocks.are_some()
 }
 
 /// What is claimed of the resolution of a design of the step: that no pattern is less, or that no
@@ -243,20 +239,21 @@ fn seeks_in_blocks(wanted: &Wanted, blocks: Blocks) -> bool
 fn claim_of(step: &Step) -> &'static [u8]
     ensures { result.now ≡ resolution_claim (meaning_of step.now) }
 {
-    if step.least {
+    if step.settings.least {
         b" least aberration"
     } else {
-        highest_claim(&step.wanted, step.blocks)
+        highest_claim(step.settings)
     }
 }
 
 /// That no resolution is higher, where the highest is wanted; in blocks it is claimed elsewhere.
-fn highest_claim(wanted: &Wanted, blocks: Blocks) -> &'static [u8]
-    ensures { result.now ≡ highest_claim blocks (goal_of wanted.now) }
+fn highest_claim(settings: StepSettings) -> &'static [u8]
+    ensures { result.now ≡ highest_claim settings }
 {
-    match wanted {
-        Wanted::Highest => { if blocks.are_some() { b"" } else { b" highest" } }
-        Wanted::Resolution { .. } | Wanted::Effects { .. } => b"",
+    if settings.criterion.is_highest() && !settings.blocks.are_some() {
+        b" highest"
+    } else {
+        b""
     }
 }
 

@@ -2,7 +2,7 @@ ghost use Rattle.std.specs.Prelude.{◌≡◌, ◌≤◌, ◌+◌, ◌^◌, [], 
 ghost use Rattle.fx_designs.specs.Patterns.{pattern_of};
 ghost use Rattle.fx_vectors.specs.Shape.{dimensions_of};
 ghost use Rattle.fx_runs.specs.Runs.{design_of};
-ghost use Rattle.fx_statements.specs.Goals.{goal_of};
+ghost use Rattle.fx_vectors.specs.Question.{requirement_of};
 ghost use Rattle.fx_statements.specs.Steps.{meaning_of};
 ghost use Rattle.fx_alias.specs.Aliasing.{alias_section, listed_components};
 ghost use Rattle.fx_alias.specs.Blocked.{blocked_section};
@@ -99,7 +99,7 @@ fn put_aliases(
         (out.new
         ≡ out.old ++ (if step.now.examine.aliasing
         then alias_section marks step.now.factors (design_of matrix.now)
-        (listed_components matrix.now.shape.q matrix.now.shape.s (goal_of step.now.wanted)) else [])) }
+        (listed_components matrix.now.shape.q matrix.now.shape.s (requirement_of step.now.demands)) else [])) }
 {
     if step.examine.aliasing {
         alias_listing(alloc, marks, step, matrix, out)
@@ -117,7 +117,7 @@ fn put_blocked(alloc: Global, step: &Step, matrix: &Matrix, out: &mut Bytes) -> 
         (out.new
         ≡ out.old ++ (if step.now.examine.blocked
         then blocked_section step.now.factors (design_of matrix.now)
-        (listed_components matrix.now.shape.q matrix.now.shape.s (goal_of step.now.wanted)) else [])) }
+        (listed_components matrix.now.shape.q matrix.now.shape.s (requirement_of step.now.demands)) else [])) }
 {
     if step.examine.blocked {
         blocked_listing(alloc, step, matrix, out)

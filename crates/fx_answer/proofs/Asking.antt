@@ -1,36 +1,32 @@
 -- How the asking goes on from one question to the next.
-use Rattle.std.proofs.Common.{Bool, ℕ, ◌≡◌, ◌<◌, ◌≤◌, ◌+◌, ◌-◌, ◌||◌, true, false, List, [], ◌∷◌, ◌++◌, map, length, Option}
+use Rattle.std.proofs.Common.{Bool, ℕ, ◌≡◌, ◌<◌, ◌≤◌, ◌+◌, ◌-◌, ◌||◌, true, false, List, [], ◌∷◌, ◌++◌, map, length}
+use Rattle.std.proofs.Common.{Option}
 use Rattle.std.proofs.Common.{None, suc, refl, sym, ap, ◌∙◌, arith, inl, inr, append-nil, append_assoc, ap₂}
 use Rattle.std.proofs.Common.{length-append, Some, lt-ltb, le-ltb, eqb, eqb-true, eq-eqb}
-use Rattle.std.specs.Prelude.{find}
+use Rattle.std.specs.Prelude.{find, if◌then◌else◌}
 use Rattle.std.specs.List.{range_with_len}
 use Rattle.std.proofs.lemmas.Bool.{cases_Bool, cond-true, cond-false, cases_eq, or_right, or_from, false_from_ne_true}
-use Rattle.fx_designs.specs.Problems.{Problem}
-use Rattle.fx_designs.specs.Problems as problems
+use Rattle.fx_designs.specs.Problems.{Problem, Requirement, AtResolution, ForEffects}
 use Rattle.fx_demands.specs.declared.forbidden_list.ForbiddenVector.{ForbiddenVector}
 use Rattle.fx_search.specs.FactorRows.{AreForbidden}
 use Rattle.fx_designs.specs.Answers.{answer}
 use Rattle.fx_designs.specs.Nodes.{nodes}
-use Rattle.fx_statements.specs.Goals.{Goal, AtLeast, Highest, ForEffects}
 use Rattle.fx_statements.specs.Steps.{Meaning}
 use Rattle.fx_statements.specs.Questions.{Until, Found, Turn, conclusion_of, found_by, highest, is_last, last_found}
 use Rattle.fx_statements.specs.Questions.{last_of, lowest, nodes_of, outcome_of, passes, question_for, turns, until}
-use Rattle.fx_statements.specs.Questions.{requirement_for, up_to}
+use Rattle.fx_statements.specs.Questions.{seeks_highest, up_to}
 use Rattle.fx_vectors.specs.declared.book.NamedBook.{NamedBook}
 use Rattle.fx_answer.specs.Books.{book_at, books_from, books_of, finished}
 use Rattle.fx_answer.specs.Standing.{ComeBefore, all_books_from, conclusion_from, questions_above, value_after}
 use Rattle.fx_answer.specs.Standing.{value_from, value_past}
 
 -- effects are demanded by all questions of a step, or by none
-same_effects : (least : Bool) (goal : Goal) (n k : ℕ) (estimate besides : List ℕ)
-    → requirement_for least goal k ≡ problems.ForEffects estimate besides
-    → requirement_for least goal n ≡ problems.ForEffects estimate besides
-same_effects least (AtLeast r) n k estimate besides is = is
-same_effects true Highest n k estimate besides is =
-    absurd (let e : problems.AtResolution 3 ≡ problems.ForEffects estimate besides = is in cc e)
-same_effects false Highest n k estimate besides is =
-    absurd (let e : problems.AtResolution k ≡ problems.ForEffects estimate besides = is in cc e)
-same_effects least (ForEffects these others) n k estimate besides is = is
+same_effects : (seeks : Bool) (requirement : Requirement) (n k : ℕ) (estimate besides : List ℕ)
+    → (if seeks then AtResolution k else requirement) ≡ ForEffects estimate besides
+    → (if seeks then AtResolution n else requirement) ≡ ForEffects estimate besides
+same_effects true requirement n k estimate besides is =
+    absurd (let e : AtResolution k ≡ ForEffects estimate besides = is in cc e)
+same_effects false requirement n k estimate besides is = is
 
 -- so they have the same forbidden vectors
 pub same_words : (step : Meaning) (n k : ℕ) (words : List ForbiddenVector) → AreForbidden (question_for step n) words
@@ -38,7 +34,7 @@ pub same_words : (step : Meaning) (n k : ℕ) (words : List ForbiddenVector) →
 same_words step n k words h =
     record {
       all = λ estimate besides is.
-          h.all estimate besides (same_effects step.settings.least step.goal n k estimate besides is);
+          h.all estimate besides (same_effects (seeks_highest step.settings) step.requirement n k estimate besides is);
     }
 
 -- and its answer is the last, if it has one

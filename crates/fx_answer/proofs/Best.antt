@@ -1,7 +1,7 @@
 -- The design of a valid step is as it asks, and none is better: of the questions of the step the next, or each before
 -- it, has no answer.
 use Rattle.std.proofs.Common.{ℕ, suc, ◌≡◌, ◌<◌, ◌≤◌, ◌+◌, ◌-◌, ◌||◌, ◌&&◌, Bool, true, false, List, length, Option}
-use Rattle.std.proofs.Common.{Some, None, refl, sym, ap, ◌∙◌, subst, arith, inl, inr, ◌⊎◌, eqb-true}
+use Rattle.std.proofs.Common.{Some, None, refl, sym, ap, ap₂, ◌∙◌, subst, arith, inl, inr, ◌⊎◌, eqb-true}
 use Rattle.std.specs.Prelude.{not, max, if◌then◌else◌, is_some, slice_get}
 use Rattle.std.proofs.lemmas.Bool.{leb-true, cases_Bool, cases_lt, and_parts, both_ways, eqb-true, or_parts}
 use Rattle.fx_designs.specs.Galois.{IsField}
@@ -31,24 +31,25 @@ use Rattle.fx_settings.specs.Models.{is_highest}
 use Rattle.fx_settings.specs.Powers.{greatest}
 use Rattle.fx_settings.specs.Settings.{is_level}
 use Rattle.fx_settings.specs.Valid.{are_blocks, has_blocks, has_most, stand_together}
-use Rattle.fx_statements.specs.Goals.{Highest}
+use Rattle.fx_settings.specs.declared.settings.Criterion.TheVariants.{Highest}
+use Rattle.fx_statements.specs.Requirements.{IsOfKind}
 use Rattle.fx_statements.specs.Steps.{Meaning}
 use Rattle.fx_statements.specs.Questions as asked
 use Rattle.fx_statements.specs.Questions.{Answered, Unanswered, Conclusion, Until, block_factors, conclusion_of}
 use Rattle.fx_statements.specs.Questions.{least_exponent, lowest, outcome_of, question_for, questions_of, is_last}
-use Rattle.fx_statements.specs.Questions.{requirement_for, resolution_wanted, run_factors, seeks_highest, series, until}
+use Rattle.fx_statements.specs.Questions.{resolution_wanted, run_factors, seeks_highest, series, until}
 use Rattle.fx_statements.proofs.Concluded.{HasEnding, IsOfFirst, IsOfLast, of-first, of-last, none-of_all}
 use Rattle.fx_statements.proofs.Concluded.{none-of_first, IsQuestionOf, asked_at, each-of_step}
 use Rattle.fx_answer.specs.StepClaims.{Allows, ClaimsHold, HasHighestOfAll, HasLeastOfAll, HasLeastSize, HasMostBlocks}
 use Rattle.fx_answer.specs.StepClaims.{HasHighestInBlocks, HasNoneAtAll, HasWhatItAsks, IsAsItAsks, OfOutcome}
-use Rattle.fx_answer.specs.StepClaims.{LeavesNoneOfLeastSize, MeetsWhatItReached, required}
+use Rattle.fx_answer.specs.StepClaims.{LeavesNoneOfLeastSize, MeetsWhatItReached}
 use Rattle.fx_answer.specs.ValidSteps.{IsValidStep}
 use Rattle.fx_answer.proofs.StepSettings.{most_or, not_both, not_most, same_blocks, runs_again, blocks_again}
-use Rattle.fx_answer.proofs.StepSettings.{highest_or, kind_of_highest, reducible_by, exponent_fits, size_or, unblocked}
+use Rattle.fx_answer.proofs.StepSettings.{highest_or, reducible_by, exponent_fits, size_or, unblocked}
 use Rattle.fx_answer.proofs.StepSettings.{same_dimensions}
-use Rattle.fx_answer.proofs.FullBlocks.{fewer_than_indexes, goal-estimated}
+use Rattle.fx_answer.proofs.FullBlocks.{fewer_than_indexes, requirement-estimated}
 use Rattle.fx_answer.proofs.NextResolution.{exact_resolution, full_resolution}
-use Rattle.fx_answer.proofs.Valid.{order_of, some_numbers}
+use Rattle.fx_answer.proofs.Valid.{order_of, seeks_with_least, some_numbers}
 use Rattle.fx_answer.proofs.Left.{IsLeftOf, left-of, left_met, none-left}
 
 -- A question of a step that is asked, requires this of designs of these dimensions, and has this answer
@@ -77,9 +78,9 @@ module _ (step : Meaning) (valid : IsValidStep step) where
   given : are_blocks q step.settings.size step.settings.blocks ≡ true
   given = (and_parts _ _ (and_parts _ _ valid.settings).0).1
 
-  reducible : IsReducible (required step.goal)
+  reducible : IsReducible step.requirement
   reducible =
-      reducible_by step.settings.criterion step.goal valid.goal
+      reducible_by step.settings.criterion step.requirement valid.kind
       (and_parts _ _ (and_parts _ _ (and_parts _ _ valid.settings).0).0).1
 
   together : stand_together step.settings.size step.settings.criterion step.settings.least step.settings.blocks ≡ true
@@ -101,38 +102,45 @@ module _ (step : Meaning) (valid : IsValidStep step) where
       (second.0, second.1, first.1)
 
   -- where the highest resolution is wanted, the most blocks are not, and the size is fixed
-  highest_kind : step.goal ≡ Highest → is_highest step.settings.criterion ≡ true
-  highest_kind e = kind_of_highest step.settings.criterion step.goal valid.goal e
+  highest_kind : step.settings.criterion ≡ Highest → is_highest step.settings.criterion ≡ true
+  highest_kind e = ap is_highest e
 
-  highest_not_most : step.goal ≡ Highest → has_most step.settings.blocks ≡ false
+  highest_not_most : step.settings.criterion ≡ Highest → has_most step.settings.blocks ≡ false
   highest_not_most e =
       not_most step.settings.blocks (is_highest step.settings.criterion) step.settings.least
       (and_parts _ _ (and_parts _ _ together).0).1 (highest_kind e)
 
-  highest_fixed : step.goal ≡ Highest → step.settings.size ≡ Minimum → ⊥
+  highest_fixed : step.settings.criterion ≡ Highest → step.settings.size ≡ Minimum → ⊥
   highest_fixed e least = both_ways _ (with_least_size least).0 (highest_kind e)
 
   most_fixed : step.settings.blocks ≡ blocks.Most → step.settings.size ≡ Minimum → ⊥
   most_fixed e least = both_ways _ (with_least_size least).2 (ap has_most e)
 
-  most_not_highest : step.settings.blocks ≡ blocks.Most → step.goal ≡ Highest → ⊥
-  most_not_highest e h = both_ways _ (highest_not_most h) (ap has_most e)
-
-  -- what a question requires
-  requires_same : (n : ℕ) → (step.goal ≡ Highest → ⊥) → (question n).requirement ≡ required step.goal
-  requires_same n other =
-      elim (highest_or step.goal) [ inl e ↦ absurd (other e) | inr same ↦ same step.settings.least n ]
-
-  requires_least : (n : ℕ) → step.settings.least ≡ true → (question n).requirement ≡ required step.goal
-  requires_least n least = ap (λ b. requirement_for b step.goal n) least ∙ elim (highest_or step.goal) [
-    | inl e ↦ ap (λ goal. requirement_for true goal n) e ∙ sym (ap required e)
-    | inr same ↦ same true n
+  most_not_highest : step.settings.blocks ≡ blocks.Most → is_highest step.settings.criterion ≡ false
+  most_not_highest e = elim (highest_or step.settings.criterion) [
+    | inl highest ↦ absurd (both_ways _ (highest_not_most highest) (ap has_most e))
+    | inr other ↦ other
   ]
 
-  requires_resolution : (n : ℕ) → step.settings.least ≡ false → step.goal ≡ Highest
+  -- what a question requires
+  least_required : step.settings.criterion ≡ Highest → step.requirement ≡ AtResolution 3
+  least_required e = subst (λ kind. IsOfKind kind step.requirement) e valid.kind
+
+  seeks : step.settings.least ≡ false → step.settings.criterion ≡ Highest → seeks_highest step.settings ≡ true
+  seeks plain e = ap₂ (λ kind least. is_highest kind && not least) e plain
+
+  requirement_is : (n : ℕ) → seeks_highest step.settings ≡ false → (question n).requirement ≡ step.requirement
+  requirement_is n given = ap (λ b. if b then AtResolution n else step.requirement) given
+
+  requires_same : (n : ℕ) → is_highest step.settings.criterion ≡ false → (question n).requirement ≡ step.requirement
+  requires_same n other = requirement_is n (ap (λ b. b && not step.settings.least) other)
+
+  requires_least : (n : ℕ) → step.settings.least ≡ true → (question n).requirement ≡ step.requirement
+  requires_least n least = requirement_is n (seeks_with_least step.settings least)
+
+  requires_resolution : (n : ℕ) → step.settings.least ≡ false → step.settings.criterion ≡ Highest
       → (question n).requirement ≡ AtResolution n
-  requires_resolution n plain e =
-      ap (λ b. requirement_for b step.goal n) plain ∙ ap (λ goal. requirement_for false goal n) e
+  requires_resolution n plain e = ap (λ b. if b then AtResolution n else step.requirement) (seeks plain e)
 
   -- a question without an answer
   unanswered : (n : ℕ) (wanted : Requirement) → (question n).requirement ≡ wanted → IsReducible wanted
@@ -228,37 +236,37 @@ module _ (step : Meaning) (valid : IsValidStep step) where
     high_most : step.settings.blocks ≡ blocks.Most → high ≡ m
     high_most e =
         ap (λ b. if has_most b
-        then m else (if seeks_highest step.settings.least step.goal then max 3 (length step.factors + 1) else 3)) e
+        then m else (if seeks_highest step.settings then max 3 (length step.factors + 1) else 3)) e
 
     -- where the highest resolution is, they are for 3 and up
-    low_highest : step.goal ≡ Highest → low ≡ 3
+    low_highest : step.settings.criterion ≡ Highest → low ≡ 3
     low_highest e = ap (λ b. if b then 1 else 3) (highest_not_most e)
 
-    high_highest : step.goal ≡ Highest → step.settings.least ≡ false → high ≡ max 3 (length step.factors + 1)
+    high_highest : step.settings.criterion ≡ Highest → step.settings.least ≡ false
+        → high ≡ max 3 (length step.factors + 1)
     high_highest e plain =
         ap (λ b. if b
-        then m else (if seeks_highest step.settings.least step.goal then max 3 (length step.factors + 1) else 3))
+        then m else (if seeks_highest step.settings then max 3 (length step.factors + 1) else 3))
         (highest_not_most e)
-        ∙ ap (λ least. if seeks_highest least step.goal then max 3 (length step.factors + 1) else 3) plain
-        ∙ ap (λ goal. if seeks_highest false goal then max 3 (length step.factors + 1) else 3) e
+        ∙ ap (λ b. if b then max 3 (length step.factors + 1) else 3) (seeks plain e)
 
   abbrev d : Dimensions
   d = (outcome_of step).dimensions
 
   -- runs that meet what a question requires meet what the step does
-  met_required : (n : ℕ) (rows : List ℕ) → (step.goal ≡ Highest → 3 ≤ n)
+  met_required : (n : ℕ) (rows : List ℕ) → (step.settings.criterion ≡ Highest → 3 ≤ n)
       → is_met (question n).dimensions (question n).requirement rows ≡ true
-      → is_met (question n).dimensions (required step.goal) rows ≡ true
+      → is_met (question n).dimensions step.requirement rows ≡ true
   unfolding is_met
-  met_required n rows three met = elim (highest_or step.goal) [
-    | inr same ↦ subst (λ wanted. is_met (question n).dimensions wanted rows ≡ true) (same step.settings.least n) met
+  met_required n rows three met = elim (highest_or step.settings.criterion) [
+    | inr other ↦ subst (λ wanted. is_met (question n).dimensions wanted rows ≡ true) (requires_same n other) met
     | inl e ↦ elim (cases_Bool step.settings.least) [
       | inl least ↦ subst (λ wanted. is_met (question n).dimensions wanted rows ≡ true) (requires_least n least) met
       | inr plain ↦
           let from : 3 ≤ n = three e in
           let at : is_met (question n).dimensions (AtResolution n) rows ≡ true =
           subst (λ wanted. is_met (question n).dimensions wanted rows ≡ true) (requires_resolution n plain e) met in
-          subst (λ goal. is_met (question n).dimensions (required goal) rows ≡ true) (sym e)
+          subst (λ wanted. is_met (question n).dimensions wanted rows ≡ true) (sym (least_required e))
           (meet_less (question n).dimensions field (AtResolution n) (AtResolution 3) _ (record {
             balance = λ u hu h. (h.0, omega (arith, h.1, from));
             estimate = λ u hu h. (h.0, omega (arith, h.1, from));
@@ -285,7 +293,7 @@ module _ (step : Meaning) (valid : IsValidStep step) where
         omega (arith, from, is, low_most fixed.0 fixed.1 most)
   ]
 
-  own_three : (n : ℕ) → lowest step step.settings.size ≤ n → step.goal ≡ Highest → 3 ≤ n
+  own_three : (n : ℕ) → lowest step step.settings.size ≤ n → step.settings.criterion ≡ Highest → 3 ≤ n
   own_three n from e = elim (size_or step.settings.size) [
     | inl least ↦ absurd (highest_fixed e least)
     | inr fixed ↦
@@ -322,7 +330,7 @@ module _ (step : Meaning) (valid : IsValidStep step) where
         let h = last_found m fixed.1 rows count e in
         let dims : d ≡ (question h.n).dimensions =
         ap (λ (c : Conclusion). c.dimensions) (is_fixed m fixed.1) ∙ h.answers.dimensions in
-        subst (λ d. HasLeastPattern d (required step.goal) rows) (sym dims)
+        subst (λ d. HasLeastPattern d step.requirement rows) (sym dims)
         (subst (λ wanted. HasLeastPattern (question h.n).dimensions wanted rows) (requires_least h.n least)
         (λ factors blocks matrix met. least-of_all (question h.n) field
         (subst IsReducible (sym (requires_least h.n least)) reducible) rows factors blocks least h.answers.answer_is
@@ -351,10 +359,10 @@ module _ (step : Meaning) (valid : IsValidStep step) where
         ap (λ (c : Conclusion). c.dimensions) (is_least least) ∙ first.answers.dimensions in
         let runs : d.m ≡ first.n = ap (λ (d : Dimensions). d.m) dims ∙ ap (λ size. run_factors size first.n) least in
         let facts = with_least_size least in
-        subst (λ d. NoneMeets d (required step.goal))
+        subst (λ d. NoneMeets d step.requirement)
         (allowed_is other other.m h (ap (λ size. run_factors size other.m) least)
         (same_blocks step.settings.blocks other.m other.m other.t facts.2 ∙ sym h.blocks))
-        (unanswered other.m (required step.goal) (requires_same other.m (λ highest. highest_fixed highest least))
+        (unanswered other.m step.requirement (requires_same other.m facts.0)
         reducible
         (first.none_before other.m (h.sizes least).0 (omega (arith, less, runs))))
     | inr fixed ↦ absurd (one_size fixed.0 fixed.1 rows count other e h less)
@@ -385,22 +393,22 @@ module _ (step : Meaning) (valid : IsValidStep step) where
         let runs = λ (n : ℕ). ap (λ size. run_factors size n) fixed.1 in
         let own : (question n).dimensions.t ≡ n = at (run_factors step.settings.size n) n in
         let above : (question n).dimensions.t < other.t = subst (λ (d : Dimensions). d.t < other.t) dims more in
-        let none : NoneMeets (with_block (question n).dimensions) (required step.goal)
+        let none : NoneMeets (with_block (question n).dimensions) step.requirement
         ⊎ ((question n).dimensions.m ≤ (question n).dimensions.t) =
         elim last.none_next [
           | inl end ↦ inr (omega (arith, end, high_most m fixed.1 most, runs n, own))
-          | inr unmet ↦ inl (subst (λ d. NoneMeets d (required step.goal)) (one_more m fixed.1 most n)
-              (unanswered (n + 1) (required step.goal)
-              (requires_same (n + 1) (λ highest. most_not_highest most highest)) reducible unmet))
+          | inr unmet ↦ inl (subst (λ d. NoneMeets d step.requirement) (one_more m fixed.1 most n)
+              (unanswered (n + 1) step.requirement
+              (requires_same (n + 1) (most_not_highest most)) reducible unmet))
         ] in
         let same : with_blocks (question n).dimensions other.t ≡ other =
         same_dimensions (with_blocks (question n).dimensions other.t) other (sym h.levels)
         (runs n ∙ sym (h.runs ∙ ap (λ size. run_factors size other.m) fixed.1)) (sym h.factors) refl in
-        subst (λ d. NoneMeets d (required step.goal)) same
-        (most-blocks (question n).dimensions field (required step.goal) none other.t above)
+        subst (λ d. NoneMeets d step.requirement) same
+        (most-blocks (question n).dimensions field step.requirement none other.t above)
   ]
 
-  next_highest : (m : ℕ) → step.settings.size ≡ Runs m → step.goal ≡ Highest → (n : ℕ)
+  next_highest : (m : ℕ) → step.settings.size ≡ Runs m → step.settings.criterion ≡ Highest → (n : ℕ)
       → (question (n + 1)).dimensions ≡ (question n).dimensions
   next_highest m fixed e n =
       let runs = λ (n : ℕ). ap (λ size. run_factors size n) fixed in
@@ -425,12 +433,12 @@ module _ (step : Meaning) (valid : IsValidStep step) where
         ap (λ b. block_factors b (run_factors step.settings.size n) n) (unblocked step.settings.blocks without) in
         subst (λ d. HighestOfAll d rows) (sym dims) (elim (cases_Bool step.settings.least) [
           | inl least ↦
-              let wanted : required step.goal ≡ AtResolution 3 = ap required e in
+              let wanted : step.requirement ≡ AtResolution 3 = least_required e in
               highest-least (question n).dimensions field 3 rows plain_blocks own.0
               (subst (λ wanted. is_met (question n).dimensions wanted rows ≡ true) (requires_least n least ∙ wanted)
               own.1)
               (subst (λ wanted. HasLeastPattern (question n).dimensions wanted rows) wanted
-              (subst (λ d. HasLeastPattern d (required step.goal) rows) dims (least_of_all rows count least ends)))
+              (subst (λ d. HasLeastPattern d step.requirement rows) dims (least_of_all rows count least ends)))
           | inr plain ↦
               let is : (question n).requirement ≡ AtResolution n = requires_resolution n plain e in
               let from : 3 ≤ n = subst (λ k. k ≤ n) (low_highest m fixed.1 e) last.from in
@@ -446,7 +454,8 @@ module _ (step : Meaning) (valid : IsValidStep step) where
   ]
 
   -- the resolution of the question that was answered is reached
-  reached_is : (m : ℕ) (fixed : step.settings.size ≡ Runs m) → step.goal ≡ Highest → step.settings.least ≡ false
+  reached_is : (m : ℕ) (fixed : step.settings.size ≡ Runs m) → step.settings.criterion ≡ Highest
+      → step.settings.least ≡ false
       → (rows : List ℕ) (last : IsOfLast question (low m fixed) (high m fixed) step.settings.budget rows)
       → (outcome_of step).reached ≡ last.n
   reached_is m fixed e plain rows last =
@@ -510,28 +519,28 @@ module _ (step : Meaning) (valid : IsValidStep step) where
 
   -- of a fixed size the first question requires what the step does
   requires_first : (m : ℕ) (fixed : step.settings.size ≡ Runs m)
-      → (question (low m fixed)).requirement ≡ required step.goal
-  requires_first m fixed = elim (highest_or step.goal) [
-    | inr same ↦ same step.settings.least (low m fixed)
+      → (question (low m fixed)).requirement ≡ step.requirement
+  requires_first m fixed = elim (highest_or step.settings.criterion) [
+    | inr other ↦ requires_same (low m fixed) other
     | inl e ↦ elim (cases_Bool step.settings.least) [
       | inl least ↦ requires_least (low m fixed) least
       | inr plain ↦
-          requires_resolution (low m fixed) plain e ∙ ap AtResolution (low_highest m fixed e) ∙ sym (ap required e)
+          requires_resolution (low m fixed) plain e ∙ ap AtResolution (low_highest m fixed e) ∙ sym (least_required e)
     ]
   ]
 
   none_fixed : (other : Dimensions) → Allows step other → (m : ℕ) (fixed : step.settings.size ≡ Runs m)
       → answer (question (low m fixed)) ≡ None
-      → NoneMeets other (required step.goal)
+      → NoneMeets other step.requirement
   none_fixed other h m fixed unmet =
       let n : ℕ = low m fixed in
-      let none : NoneMeets (question n).dimensions (required step.goal) =
-      unanswered n (required step.goal) (requires_first m fixed) reducible unmet in
+      let none : NoneMeets (question n).dimensions step.requirement =
+      unanswered n step.requirement (requires_first m fixed) reducible unmet in
       let runs = λ (n : ℕ). ap (λ size. run_factors size n) fixed in
       let same_runs : run_factors step.settings.size n ≡ other.m = runs n ∙ sym (h.runs ∙ runs other.m) in
       elim (most_or step.settings.blocks) [
         | inr plain ↦
-            subst (λ d. NoneMeets d (required step.goal))
+            subst (λ d. NoneMeets d step.requirement)
             (allowed_is other n h same_runs (same_blocks step.settings.blocks other.m n other.t plain ∙ sym h.blocks))
             none
         | inl most ↦
@@ -541,8 +550,8 @@ module _ (step : Meaning) (valid : IsValidStep step) where
             let same : with_blocks (question n).dimensions other.t ≡ other =
             same_dimensions (with_blocks (question n).dimensions other.t) other (sym h.levels) same_runs (sym h.factors)
             refl in
-            subst (λ d. NoneMeets d (required step.goal)) same
-            (none-with_more (question n).dimensions field (required step.goal) other.t (omega (arith, own, from)) none)
+            subst (λ d. NoneMeets d step.requirement) same
+            (none-with_more (question n).dimensions field step.requirement other.t (omega (arith, own, from)) none)
       ]
 
   -- without a design no question has an answer, or the first has none, and so no later one
@@ -550,10 +559,10 @@ module _ (step : Meaning) (valid : IsValidStep step) where
   none_at_all count other e h = elim (size_or step.settings.size) [
     | inl least ↦
         let facts = with_least_size least in
-        subst (λ d. NoneMeets d (required step.goal))
+        subst (λ d. NoneMeets d step.requirement)
         (allowed_is other other.m h (ap (λ size. run_factors size other.m) least)
         (same_blocks step.settings.blocks other.m other.m other.t facts.2 ∙ sym h.blocks))
-        (unanswered other.m (required step.goal) (requires_same other.m (λ highest. highest_fixed highest least))
+        (unanswered other.m step.requirement (requires_same other.m facts.0)
         reducible
         (none_found least count e other.m (h.sizes least).0
         (subst (λ q. other.m ≤ greatest q) h.levels (h.sizes least).1)))
@@ -649,7 +658,7 @@ module _ (step : Meaning) (valid : IsValidStep step) where
   -- behind a least pattern is the only question
   pub least_asked : (rows : List ℕ) (count : ℕ) → step.settings.least ≡ true
       → HasEnding (outcome_of step) (Design rows count)
-      → IsAsked step d (required step.goal) (Some rows)
+      → IsAsked step d step.requirement (Some rows)
   least_asked rows count least e = elim (size_or step.settings.size) [
     | inl small ↦ absurd (both_ways _ (with_least_size small).1 least)
     | inr fixed ↦
@@ -663,14 +672,14 @@ module _ (step : Meaning) (valid : IsValidStep step) where
         (some_numbers step valid (lowest step step.settings.size) refl) in
         let dims : d ≡ (question n).dimensions =
         ap (λ (c : Conclusion). c.dimensions) (is_fixed m fixed.1) ∙ last.answers.dimensions in
-        asked_for n d (required step.goal) (Some rows) (omega (arith, last.from, lowest_is))
+        asked_for n d step.requirement (Some rows) (omega (arith, last.from, lowest_is))
         (omega (arith, last.upto some, highest_is))
         (before_fixed m fixed.1 n (λ k from below. last.some_upto k from (omega (arith, below)))) (sym dims)
         (requires_least n least) last.answers.answer_is
   ]
 
   -- behind the highest resolution that for the next, unless there are no defining words
-  pub highest_asked : (rows : List ℕ) (count : ℕ) → step.goal ≡ Highest → step.settings.least ≡ false
+  pub highest_asked : (rows : List ℕ) (count : ℕ) → step.settings.criterion ≡ Highest → step.settings.least ≡ false
       → has_blocks step.settings.blocks ≡ false
       → HasEnding (outcome_of step) (Design rows count)
       → (resolution_of (pattern_of d rows) ≡ d.s + 1)
@@ -711,7 +720,7 @@ module _ (step : Meaning) (valid : IsValidStep step) where
   ]
 
   -- behind the highest resolution in blocks that for the next, unless it is the highest that is asked for
-  pub next_in_blocks_asked : (rows : List ℕ) (count : ℕ) → step.goal ≡ Highest
+  pub next_in_blocks_asked : (rows : List ℕ) (count : ℕ) → step.settings.criterion ≡ Highest
       → has_blocks step.settings.blocks ≡ true
       → HasEnding (outcome_of step) (Design rows count)
       → ((outcome_of step).reached ≡ top_resolution d)
@@ -744,7 +753,7 @@ module _ (step : Meaning) (valid : IsValidStep step) where
   pub smaller_asked : (rows : List ℕ) (count : ℕ) (other : Dimensions)
       → HasEnding (outcome_of step) (Design rows count)
       → Allows step other
-      → other.m < d.m → IsAsked step other (required step.goal) None
+      → other.m < d.m → IsAsked step other step.requirement None
   smaller_asked rows count other e h less = elim (size_or step.settings.size) [
     | inl least ↦
         let first = first_found least rows count e in
@@ -756,11 +765,11 @@ module _ (step : Meaning) (valid : IsValidStep step) where
         let high : asked.highest step step.settings.size ≡ greatest q = ap (asked.highest step) least in
         let from : least_exponent step.settings.blocks ≤ other.m = (h.sizes least).0 in
         let top : other.m ≤ greatest q = subst (λ q. other.m ≤ greatest q) h.levels (h.sizes least).1 in
-        asked_for other.m other (required step.goal) None (omega (arith, from, low)) (omega (arith, top, high))
+        asked_for other.m other step.requirement None (omega (arith, from, low)) (omega (arith, top, high))
         (before_least least rows first other.m (omega (arith, less, runs)))
         (allowed_is other other.m h (ap (λ size. run_factors size other.m) least)
         (same_blocks step.settings.blocks other.m other.m other.t facts.2 ∙ sym h.blocks))
-        (requires_same other.m (λ highest. highest_fixed highest least))
+        (requires_same other.m facts.0)
         (first.none_before other.m from (omega (arith, less, runs)))
     | inr fixed ↦ absurd (one_size fixed.0 fixed.1 rows count other e h less)
   ]
@@ -768,7 +777,7 @@ module _ (step : Meaning) (valid : IsValidStep step) where
   -- behind the most blocks that for one block factor more
   pub more_blocks_asked : (rows : List ℕ) (count : ℕ) → step.settings.blocks ≡ blocks.Most
       → HasEnding (outcome_of step) (Design rows count)
-      → IsAsked step (with_block d) (required step.goal) None
+      → IsAsked step (with_block d) step.requirement None
   more_blocks_asked rows count most e = elim (size_or step.settings.size) [
     | inl least ↦ absurd (most_fixed most least)
     | inr fixed ↦
@@ -777,18 +786,18 @@ module _ (step : Meaning) (valid : IsValidStep step) where
         let n : ℕ = last.n in
         let dims : d ≡ (question n).dimensions =
         ap (λ (c : Conclusion). c.dimensions) (is_fixed m fixed.1) ∙ last.answers.dimensions in
-        let same = requires_same n (λ highest. most_not_highest most highest) in
-        elim (next_asked m fixed.1 rows last (with_block d) (required step.goal)
+        let same = requires_same n (most_not_highest most) in
+        elim (next_asked m fixed.1 rows last (with_block d) step.requirement
         (one_more m fixed.1 most n ∙ ap with_block (sym dims))
-        (requires_same (n + 1) (λ highest. most_not_highest most highest))) [
+        (requires_same (n + 1) (most_not_highest most))) [
           | inl end ↦
               let own = answered n rows last.answers.answer_is in
               let blocks_are : (question n).dimensions.t ≡ n =
               ap (λ b. block_factors b (run_factors step.settings.size n) n) most in
               let runs : (question n).dimensions.m ≡ m = ap (λ size. run_factors size n) fixed.1 in
               let fewer =
-              fewer_than_indexes (question n).dimensions field (required step.goal)
-              (goal-estimated (question n).dimensions field step.goal reducible
+              fewer_than_indexes (question n).dimensions field step.requirement
+              (requirement-estimated (question n).dimensions field step.requirement reducible
               (leb-true 1 (length step.factors) (and_parts _ _ valid.factors).0) valid.effects) rows own.0
               (subst (λ wanted. is_met (question n).dimensions wanted rows ≡ true) same own.1) in
               absurd (omega (arith, end, high_most m fixed.1 most, runs, blocks_are, fewer))

@@ -1,13 +1,12 @@
 -- Which dimensions a step allows.
 use Rattle.std.proofs.Common.{ℕ, false, [], refl, arith}
 use Rattle.std.specs.Prelude.{codes, replicate}
-use Rattle.fx_designs.specs.Problems.{Dimensions}
+use Rattle.fx_designs.specs.Problems.{Dimensions, AtResolution}
 use Rattle.fx_settings.specs.declared.settings.Size.{Size}
 use Rattle.fx_settings.specs.declared.settings.Size.TheVariants.{Runs, Minimum}
 use Rattle.fx_settings.specs.declared.settings.Criterion.TheVariants as criterion
 use Rattle.fx_settings.specs.declared.settings.Blocks.{Blocks}
 use Rattle.fx_settings.specs.declared.settings.Blocks.TheVariants as blocks
-use Rattle.fx_statements.specs.Goals.{AtLeast}
 use Rattle.fx_statements.specs.declared.fold.Fold.TheVariants.{Without}
 use Rattle.fx_statements.specs.Steps.{Meaning}
 use Rattle.fx_answer.specs.StepClaims.{Allows}
@@ -24,7 +23,7 @@ step_of size given = record {
     least = false;
     blocks = given;
   };
-  goal = AtLeast 3;
+  requirement = AtResolution 3;
   examine = record { aliasing = false; blocked = false; design = false; aberration = false };
   fold = Without;
   outputs = [];

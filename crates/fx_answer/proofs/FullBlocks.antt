@@ -34,10 +34,7 @@ use Rattle.fx_reduction.proofs.Kept.{allowed_facts, block-vectors, factor-vector
 use Rattle.fx_reduction.proofs.NoDesign.{met_exactly, named_matrix}
 use Rattle.fx_reduction.specs.Reduction.{IsReducible}
 use Rattle.fx_vectors.specs.Question.{CanBeTold}
-use Rattle.fx_statements.specs.Goals.{Goal, AtLeast, Highest}
-use Rattle.fx_statements.specs.Goals as goals
-use Rattle.fx_answer.specs.StepClaims.{required}
-use Rattle.fx_answer.specs.ValidSteps.{CanBeSought}
+use Rattle.fx_statements.specs.Valid.{CanBeRequired}
 
 -- a row that is 1 at a point where independent rows are 0 is independent of them
 module _ (q m : ℕ) (f : IsField q) (rows : List (List ℕ)) (hr : AreVectors q m rows) (v : List ℕ) (hv : IsVector q m v)
@@ -201,9 +198,9 @@ effects-estimated d f (e ∷ estimate) besides told =
       };
     }
 
--- and so there is one for each goal of a step
-pub goal-estimated : (d : Dimensions) (f : IsField d.q) (goal : Goal) → IsReducible (required goal) → 1 ≤ d.s
-    → CanBeSought d.q d.s goal → HasEstimated d (required goal)
-goal-estimated d f (AtLeast r) three one told = resolution-estimated d f r three one
-goal-estimated d f Highest three one told = resolution-estimated d f 3 three one
-goal-estimated d f (goals.ForEffects estimate besides) three one told = effects-estimated d f estimate besides told.0
+-- and so there is one for each requirement of a step
+pub requirement-estimated : (d : Dimensions) (f : IsField d.q) (requirement : Requirement) → IsReducible requirement
+    → 1 ≤ d.s → CanBeRequired d.q d.s requirement → HasEstimated d requirement
+requirement-estimated d f (AtResolution r) three one told = resolution-estimated d f r three one
+requirement-estimated d f (ForEffects estimate besides) three one told =
+    effects-estimated d f estimate besides told.0

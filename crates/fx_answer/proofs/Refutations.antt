@@ -1,4 +1,5 @@
--- What the claims on the outcome of a step give, and which outcomes they exclude: a claim that is weakened does neither.
+-- What the claims on the outcome of a step give, and which outcomes they exclude: a claim that is weakened does
+-- neither.
 use Rattle.std.proofs.Common.{ℕ, ◌≡◌, ◌<◌, true, false, List, [], ◌∷◌, refl, arith}
 use Rattle.std.specs.Prelude.{codes, replicate}
 use Rattle.std.proofs.lemmas.Bool.{both_ways}
@@ -6,37 +7,38 @@ use Rattle.std.proofs.lemmas.List.Elements.{All-from_recursion}
 use Rattle.fx_designs.specs.Galois.{prime_of, degree_of, reduction_of, add, mul, neg, inv}
 use Rattle.fx_designs.specs.Vectors.{IsVector}
 use Rattle.fx_designs.specs.Runs.{runs_of, is_constant, is_balanced, are_blocks_even, is_balanced_in_blocks}
-use Rattle.fx_designs.specs.Problems.{Dimensions}
+use Rattle.fx_designs.specs.Problems.{Dimensions, AtResolution}
 use Rattle.fx_designs.specs.Demands.{must_balance, is_estimated}
 use Rattle.fx_designs.specs.Matrices.{IsRuleMatrix, NoneMeets}
 use Rattle.fx_designs.specs.Outcomes.{Design, NoDesign}
 use Rattle.fx_reduction.specs.Resolutions.{HasLeastPattern, HighestOfAll}
 use Rattle.fx_settings.specs.declared.settings.Size.{Size}
 use Rattle.fx_settings.specs.declared.settings.Size.TheVariants.{Runs, Minimum}
-use Rattle.fx_settings.specs.declared.settings.Criterion.TheVariants as criterion
+use Rattle.fx_settings.specs.declared.settings.Criterion.{Criterion}
+use Rattle.fx_settings.specs.declared.settings.Criterion.TheVariants.{Highest, Resolution}
 use Rattle.fx_settings.specs.declared.settings.Blocks.{Blocks}
 use Rattle.fx_settings.specs.declared.settings.Blocks.TheVariants as blocks
 use Rattle.fx_settings.specs.Valid.{has_blocks}
-use Rattle.fx_statements.specs.Goals.{Goal, AtLeast, Highest}
 use Rattle.fx_statements.specs.Questions.{Conclusion}
 use Rattle.fx_statements.specs.declared.fold.Fold.TheVariants.{Without}
 use Rattle.fx_statements.specs.Steps.{Meaning}
-use Rattle.fx_answer.specs.StepClaims.{Allows, HasHighestOfAll, HasLeastOfAll, HasLeastSize, HasMostBlocks, HasNoneAtAll}
-use Rattle.fx_answer.specs.StepClaims.{MeetsWhatItReached, required}
+use Rattle.fx_answer.specs.StepClaims.{Allows, HasHighestOfAll, HasLeastOfAll, HasLeastSize, HasMostBlocks}
+use Rattle.fx_answer.specs.StepClaims.{HasNoneAtAll}
+use Rattle.fx_answer.specs.StepClaims.{MeetsWhatItReached}
 
 -- a step of three factors of two levels
-abbrev step_of : Size → Blocks → Goal → Meaning
-step_of size given goal = record {
+abbrev step_of : Size → Blocks → Criterion → Meaning
+step_of size given kind = record {
   factors = replicate 3 (codes "A");
   settings = record {
     q = 2;
     budget = 1000000;
     size = size;
-    criterion = criterion.Resolution 3;
+    criterion = kind;
     least = false;
     blocks = given;
   };
-  goal = goal;
+  requirement = AtResolution 3;
   examine = record { aliasing = false; blocked = false; design = false; aberration = false };
   fold = Without;
   outputs = [];
@@ -94,7 +96,7 @@ in_four_runs = record {
   block_rows = All-from_recursion (IsVector 2 2) [] tt;
 }
 
-allowed_blocks : Allows (step_of (Runs 3) blocks.Most (AtLeast 3)) (in_blocks 3 2)
+allowed_blocks : Allows (step_of (Runs 3) blocks.Most (Resolution 3)) (in_blocks 3 2)
 allowed_blocks = record {
   levels = refl;
   factors = refl;
@@ -104,7 +106,7 @@ allowed_blocks = record {
   some_blocks = λ e. omega arith;
 }
 
-allowed_runs : Allows (step_of Minimum blocks.Without (AtLeast 3)) (in_blocks 2 0)
+allowed_runs : Allows (step_of Minimum blocks.Without (Resolution 3)) (in_blocks 2 0)
 allowed_runs = record {
   levels = refl;
   factors = refl;
@@ -116,7 +118,7 @@ allowed_runs = record {
 
 -- two blocks are not the most where four are possible
 one_more_block_factor :
-    HasMostBlocks (step_of (Runs 3) blocks.Most (AtLeast 3)) (with_rows (in_blocks 3 1) (1 ∷ 2 ∷ 4 ∷ 7 ∷ []) 0) → ⊥
+    HasMostBlocks (step_of (Runs 3) blocks.Most (Resolution 3)) (with_rows (in_blocks 3 1) (1 ∷ 2 ∷ 4 ∷ 7 ∷ []) 0) → ⊥
 unfolding prime_of degree_of reduction_of add mul neg inv runs_of is_constant is_balanced are_blocks_even
     is_balanced_in_blocks must_balance is_estimated
 one_more_block_factor most =
@@ -126,7 +128,7 @@ one_more_block_factor most =
 
 -- eight runs are not the least where four suffice
 next_smaller_size :
-    HasLeastSize (step_of Minimum blocks.Without (AtLeast 3)) (with_rows (in_blocks 3 0) (1 ∷ 2 ∷ 4 ∷ []) 0) → ⊥
+    HasLeastSize (step_of Minimum blocks.Without (Resolution 3)) (with_rows (in_blocks 3 0) (1 ∷ 2 ∷ 4 ∷ []) 0) → ⊥
 unfolding prime_of degree_of reduction_of add mul neg inv runs_of is_constant is_balanced are_blocks_even
     is_balanced_in_blocks must_balance is_estimated
 next_smaller_size least =
@@ -141,15 +143,15 @@ resolution_two meets = omega (arith, (meets (1 ∷ 2 ∷ 4 ∷ 7 ∷ []) refl re
 -- what each claim gives, whatever the step
 module _ (step : Meaning) (outcome : Conclusion) where
   none : HasNoneAtAll step outcome → (count : ℕ) (d : Dimensions) → outcome.ending ≡ NoDesign count → Allows step d
-      → NoneMeets d (required step.goal)
+      → NoneMeets d step.requirement
   none claim = claim
 
   least_pattern : HasLeastOfAll step outcome → (rows : List ℕ) (count : ℕ) → step.settings.least ≡ true
       → outcome.ending ≡ Design rows count
-      → HasLeastPattern outcome.dimensions (required step.goal) rows
+      → HasLeastPattern outcome.dimensions step.requirement rows
   least_pattern claim = claim
 
-  highest : HasHighestOfAll step outcome → (rows : List ℕ) (count : ℕ) → step.goal ≡ Highest
+  highest : HasHighestOfAll step outcome → (rows : List ℕ) (count : ℕ) → step.settings.criterion ≡ Highest
       → has_blocks step.settings.blocks ≡ false
       → outcome.ending ≡ Design rows count
       → HighestOfAll outcome.dimensions rows
@@ -159,7 +161,7 @@ module _ (step : Meaning) (outcome : Conclusion) where
       → outcome.ending ≡ Design rows count
       → Allows step d
       → d.m < outcome.dimensions.m
-      → NoneMeets d (required step.goal)
+      → NoneMeets d step.requirement
   smaller claim = claim
 
   more_blocks : HasMostBlocks step outcome → (rows : List ℕ) (count : ℕ) (d : Dimensions)
@@ -167,5 +169,5 @@ module _ (step : Meaning) (outcome : Conclusion) where
       → outcome.ending ≡ Design rows count
       → Allows step d
       → outcome.dimensions.t < d.t
-      → NoneMeets d (required step.goal)
+      → NoneMeets d step.requirement
   more_blocks claim = claim

@@ -3,7 +3,7 @@ use Rattle.std.proofs.Common.{ℕ, ◌≡◌, ◌<◌, ◌≤◌, ◌&&◌, ◌|
 use Rattle.std.proofs.Common.{◌⊎◌}
 use Rattle.std.specs.Prelude.{nat_le, not}
 use Rattle.std.proofs.lemmas.Bool.{leb-true, ltb-true, and_parts}
-use Rattle.fx_designs.specs.Problems.{Dimensions}
+use Rattle.fx_designs.specs.Problems.{Dimensions, Requirement, AtResolution, ForEffects}
 use Rattle.fx_reduction.specs.Reduction.{IsReducible}
 use Rattle.fx_settings.specs.declared.settings.Size.{Size}
 use Rattle.fx_settings.specs.declared.settings.Size.TheVariants.{Runs, Minimum}
@@ -15,10 +15,8 @@ use Rattle.fx_settings.specs.Models.{is_criterion, is_highest}
 use Rattle.fx_settings.specs.Powers.{greatest}
 use Rattle.fx_settings.specs.Settings.{is_level}
 use Rattle.fx_settings.specs.Valid.{are_blocks, has_blocks, has_most}
-use Rattle.fx_statements.specs.Goals.{Goal, AtLeast, Highest, ForEffects}
-use Rattle.fx_statements.specs.Questions.{block_factors, least_exponent, requirement_for, run_factors}
-use Rattle.fx_answer.specs.StepClaims.{required}
-use Rattle.fx_answer.specs.ValidSteps.{IsOfKind}
+use Rattle.fx_statements.specs.Requirements.{IsOfKind}
+use Rattle.fx_statements.specs.Questions.{block_factors, least_exponent, run_factors}
 use Rattle.fx_answer.proofs.Valid.{some_size}
 
 -- What goes together
@@ -64,29 +62,19 @@ blocks_again (blocks.PerBlock k) m n = refl
 blocks_again blocks.Most m n = refl
 
 -- the highest resolution is wanted or not
-pub highest_or : (goal : Goal)
-    → (goal ≡ Highest) ⊎ ((least : Bool) (n : ℕ) → requirement_for least goal n ≡ required goal)
-highest_or (AtLeast r) = inr (λ least n. refl)
-highest_or Highest = inl refl
-highest_or (ForEffects estimate besides) = inr (λ least n. refl)
+pub highest_or : (kind : Criterion) → (kind ≡ criterion.Highest) ⊎ (is_highest kind ≡ false)
+highest_or (criterion.Resolution r) = inr refl
+highest_or criterion.Highest = inl refl
+highest_or criterion.Effects = inr refl
 
-pub kind_of_highest : (kind : Criterion) (goal : Goal) → IsOfKind kind goal → goal ≡ Highest → is_highest kind ≡ true
-kind_of_highest (criterion.Resolution r) goal h e = absurd (subst (IsOfKind (criterion.Resolution r)) e h)
-kind_of_highest criterion.Highest goal h e = refl
-kind_of_highest criterion.Effects goal h e = absurd (subst (IsOfKind criterion.Effects) e h)
-
-pub reducible_by : (kind : Criterion) (goal : Goal) → IsOfKind kind goal → is_criterion kind ≡ true
-    → IsReducible (required goal)
-reducible_by (criterion.Resolution r) (AtLeast n) h e =
-    (let three = leb-true 3 r (and_parts (nat_le 3 r) (nat_le r 99) e).0 in omega (arith, three, h))
-reducible_by (criterion.Resolution r) Highest h e = absurd h
-reducible_by (criterion.Resolution r) (ForEffects estimate besides) h e = absurd h
-reducible_by criterion.Highest (AtLeast n) h e = absurd h
-reducible_by criterion.Highest Highest h e = omega arith
-reducible_by criterion.Highest (ForEffects estimate besides) h e = absurd h
-reducible_by criterion.Effects (AtLeast n) h e = absurd h
-reducible_by criterion.Effects Highest h e = absurd h
-reducible_by criterion.Effects (ForEffects estimate besides) h e = tt
+pub reducible_by : (kind : Criterion) (requirement : Requirement) → IsOfKind kind requirement
+    → is_criterion kind ≡ true → IsReducible requirement
+reducible_by (criterion.Resolution r) (AtResolution n) h e =
+    let three = leb-true 3 r (and_parts (nat_le 3 r) (nat_le r 99) e).0 in
+    let same : n ≡ r = cc in omega (arith, three)
+reducible_by criterion.Highest (AtResolution n) h e = let same : n ≡ 3 = cc in omega arith
+reducible_by criterion.Effects (AtResolution n) h e = absurd (cc h)
+reducible_by kind (ForEffects estimate besides) h e = tt
 
 pub exponent_fits : (q : ℕ) (size : Size) (b : Blocks) → is_level q ≡ true → are_blocks q size b ≡ true
     → least_exponent b ≤ greatest q

@@ -1,13 +1,13 @@
 -- The questions of a step are valid.
 use Rattle.std.proofs.Common.{ℕ, ◌≡◌, ◌<◌, ◌≤◌, ◌+◌, ◌-◌, ◌^◌, ◌||◌, ◌&&◌, Bool, true, false, List, [], ◌∷◌, length}
 use Rattle.std.proofs.Common.{refl, sym, ap, ◌∙◌, subst, arith, inl, inr, IsTrue, eqb, eqb-true, lit≤}
-use Rattle.std.specs.Prelude.{nat_le, max, if◌then◌else◌}
+use Rattle.std.specs.Prelude.{nat_le, not, max, if◌then◌else◌}
 use Rattle.std.specs.List.{list_any, list_all}
 use Rattle.std.proofs.lemmas.Bool.{leb-true, leb-false, ltb-true, ltb-false, cases_Bool, and_parts, both_ways, not-true}
 use Rattle.std.proofs.lemmas.Bool.{cond-true, cond-false}
-use Rattle.std.proofs.lemmas.List.{length-map}
 use Rattle.std.proofs.Math.Nat.{pow-le-pow_left, pow-le-pow_right, pow-zero}
 use Rattle.fx_designs.specs.Galois.{is_order}
+use Rattle.fx_designs.specs.Problems.{Requirement, AtResolution, ForEffects}
 use Rattle.fx_vectors.specs.Question.{CanBeAsked, is_resolution}
 use Rattle.fx_settings.specs.declared.settings.StepSettings.{StepSettings}
 use Rattle.fx_settings.specs.declared.settings.Size.{Size}
@@ -21,20 +21,17 @@ use Rattle.fx_settings.specs.Settings.{is_level}
 use Rattle.fx_settings.specs.Valid.{are_blocks, is_size, has_blocks, has_most, stand_together}
 use Rattle.fx_settings.specs.declared.settings.Criterion.{Criterion}
 use Rattle.fx_settings.specs.declared.settings.Criterion.TheVariants as criterion
-use Rattle.fx_vectors.specs.declared.effect.Effect.{Effect}
 use Rattle.fx_vectors.specs.declared.shape.TheConstants.{MOST_FACTORS, MOST_FACTORS_IN_BLOCKS}
 use Rattle.fx_statements.specs.declared.step.Step.{Step}
-use Rattle.fx_statements.specs.declared.wanted.Wanted.{Wanted}
-use Rattle.fx_statements.specs.declared.wanted.Wanted.TheVariants as wanted
-use Rattle.fx_statements.specs.Goals.{Goal, AtLeast, Highest, ForEffects, criterion_wanted, goal_of}
-use Rattle.fx_statements.specs.Valid.{CanBeWanted, HasFewEffects, most_factors_of}
+use Rattle.fx_statements.specs.Requirements.{IsOfKind}
+use Rattle.fx_statements.specs.Valid.{CanBeRequired, most_factors_of}
 use Rattle.fx_statements.specs.Steps.{Meaning, meaning_of}
 use Rattle.fx_statements.specs.Questions.{block_factors, highest, least_exponent, lowest, requirement_for, run_factors}
 use Rattle.fx_statements.specs.Questions.{seeks_highest}
 use Rattle.fx_statements.proofs.Bounds.{no_more_than_9, most_of_all, most_of_many}
 use Rattle.fx_statements.proofs.Bounds as bounds
 use Rattle.fx_answer.specs.Standing.{IsShapeOf}
-use Rattle.fx_answer.specs.ValidSteps.{CanBeSought, IsOfKind, IsValidStep}
+use Rattle.fx_answer.specs.ValidSteps.{IsValidStep}
 
 -- what holds at each of some numbers of levels holds at one of them
 pub at_level : (levels : List ℕ) (P : ℕ → Bool) (q : ℕ) → list_all P levels ≡ true
@@ -136,7 +133,7 @@ module _ (step : Meaning) (n : ℕ) where
 
   resolutions : (size : Size) → is_minimum size ≡ false → has_most step.settings.blocks ≡ false
       → length step.factors ≤ MOST_FACTORS → lowest step size ≤ n → n ≤ highest step size
-      → seeks_highest step.settings.least step.goal ≡ true → (3 ≤ n) × (n ≤ 99)
+      → seeks_highest step.settings ≡ true → (3 ≤ n) × (n ≤ 99)
   resolutions Minimum fixed one few low high seeks = absurd (both_ways _ fixed refl)
   resolutions (Runs m) fixed one few low high seeks =
       let from : 3 ≤ n = subst (λ k. k ≤ n) (cond-false _ _ _ one) low in
@@ -144,37 +141,42 @@ module _ (step : Meaning) (n : ℕ) where
       subst (λ k. n ≤ k) (cond-false _ _ _ one ∙ cond-true _ _ _ seeks) high in
       (from, omega (arith, upto, few))
 
--- what is asked may be asked
-can_be_asked : (q m s t n : ℕ) (least : Bool) (kind : Criterion) (goal : Goal) → is_criterion kind ≡ true
-    → IsOfKind kind goal → CanBeSought q s goal
-    → (seeks_highest least goal ≡ true → (3 ≤ n) × (n ≤ 99))
-    → CanBeAsked (record { q = q; m = m; s = s; t = t }) (requirement_for least goal n)
-can_be_asked q m s t n least (criterion.Resolution r) (AtLeast k) valid is sought bounds =
+-- what is required may be asked
+can_be_asked : (q m s t : ℕ) (kind : Criterion) (requirement : Requirement) → is_criterion kind ≡ true
+    → IsOfKind kind requirement → CanBeRequired q s requirement
+    → CanBeAsked (record { q = q; m = m; s = s; t = t }) requirement
+can_be_asked q m s t (criterion.Resolution r) (AtResolution k) valid is askable =
     let both = and_parts (nat_le 3 r) (nat_le r 99) valid in
-    subst (λ k. (3 ≤ k) × (k ≤ 99)) (sym is) (leb-true 3 r both.0, leb-true r 99 both.1)
-can_be_asked q m s t n least (criterion.Resolution r) Highest valid is sought bounds = absurd is
-can_be_asked q m s t n least (criterion.Resolution r) (ForEffects estimate others) valid is sought bounds = absurd is
-can_be_asked q m s t n least criterion.Highest (AtLeast k) valid is sought bounds = absurd is
-can_be_asked q m s t n true criterion.Highest Highest valid is sought bounds = (lit≤ tt, lit≤ tt)
-can_be_asked q m s t n false criterion.Highest Highest valid is sought bounds = bounds refl
-can_be_asked q m s t n least criterion.Highest (ForEffects estimate others) valid is sought bounds = absurd is
-can_be_asked q m s t n least criterion.Effects (AtLeast k) valid is sought bounds = absurd is
-can_be_asked q m s t n least criterion.Effects Highest valid is sought bounds = absurd is
-can_be_asked q m s t n least criterion.Effects (ForEffects estimate others) valid is sought bounds = sought.0
+    let same : k ≡ r = cc in
+    (omega (arith, leb-true 3 r both.0), omega (arith, leb-true r 99 both.1))
+can_be_asked q m s t criterion.Highest (AtResolution k) valid is askable =
+    let same : k ≡ 3 = cc in (omega arith, omega arith)
+can_be_asked q m s t criterion.Effects (AtResolution k) valid is askable = absurd (cc is)
+can_be_asked q m s t kind (ForEffects estimate others) valid is askable = askable.0
+
+and_false : (b : Bool) → (b && false) ≡ false
+and_false true = refl
+and_false false = refl
+
+-- with a least pattern the resolution is not free
+pub seeks_with_least : (x : StepSettings) → x.least ≡ true → seeks_highest x ≡ false
+seeks_with_least x h = rw h (and_false (is_highest x.criterion))
+
+-- where it is, the highest is the criterion, and no least pattern is asked
+is_sought : (x : StepSettings) → seeks_highest x ≡ true → (is_highest x.criterion ≡ true) × (x.least ≡ false)
+is_sought x h =
+    let both = and_parts (is_highest x.criterion) (not x.least) h in (both.0, not-true x.least both.1)
+
+resolution_required : (kind : Criterion) (requirement : Requirement) → IsOfKind kind requirement
+    → is_effects kind ≡ false → is_resolution requirement ≡ true
+resolution_required (criterion.Resolution r) requirement is h = rw is refl
+resolution_required criterion.Highest requirement is h = rw is refl
+resolution_required criterion.Effects requirement is h = absurd (cc h)
 
 -- with a least pattern a resolution is asked, and no blocks are
-module _ (size : Size) (given : Blocks) (kind : Criterion) (goal : Goal) (is : IsOfKind kind goal)
-    (together : stand_together size kind true given ≡ true) where
-  resolution_asked : (n : ℕ) → IsTrue (is_resolution (requirement_for true goal n))
-  resolution_asked n = go kind goal is (not-true _ (and_parts _ _ (and_parts _ _ together).0).0)
-    where
-      go : (kind : Criterion) (goal : Goal) → IsOfKind kind goal → is_effects kind ≡ false
-          → IsTrue (is_resolution (requirement_for true goal n))
-      go kind (AtLeast r) is h = refl
-      go kind Highest is h = refl
-      go (criterion.Resolution r) (ForEffects estimate others) is h = absurd is
-      go criterion.Highest (ForEffects estimate others) is h = absurd is
-      go criterion.Effects (ForEffects estimate others) is h = absurd (both_ways _ h refl)
+module _ (size : Size) (given : Blocks) (kind : Criterion) (together : stand_together size kind true given ≡ true) where
+  no_effects : is_effects kind ≡ false
+  no_effects = not-true _ (and_parts _ _ (and_parts _ _ together).0).0
 
   without_blocks : (m n : ℕ) → block_factors given m n ≡ 0
   without_blocks m n = go given (and-false _ (not-true _ (and_parts _ _ (and_parts _ _ together).0).1))
@@ -188,15 +190,6 @@ module _ (size : Size) (given : Blocks) (kind : Criterion) (goal : Goal) (is : I
       go (blocks.Factors t) h = absurd (both_ways _ h refl)
       go (blocks.PerBlock k) h = absurd (both_ways _ h refl)
       go blocks.Most h = absurd (both_ways _ h refl)
-
--- where the highest resolution is sought, it is the criterion, and no least pattern is asked
-is_sought : (least : Bool) (kind : Criterion) (goal : Goal) → IsOfKind kind goal → seeks_highest least goal ≡ true
-    → (is_highest kind ≡ true) × (least ≡ false)
-is_sought least kind (AtLeast r) is h = absurd (both_ways _ refl h)
-is_sought least kind (ForEffects estimate others) is h = absurd (both_ways _ refl h)
-is_sought least (criterion.Resolution r) Highest is h = absurd is
-is_sought least criterion.Effects Highest is h = absurd is
-is_sought least criterion.Highest Highest is h = (refl, not-true least h)
 
 -- the parts of a valid step
 module _ (step : Meaning) (valid : IsValidStep step) where
@@ -219,9 +212,9 @@ module _ (step : Meaning) (valid : IsValidStep step) where
   few_factors_in = omega (arith, counted_in, most_of_all x.q (has_blocks x.blocks))
 
   -- where the highest resolution is sought, the size is fixed, and not the most blocks are asked
-  fixed : seeks_highest x.least step.goal ≡ true → is_minimum x.size ≡ false
+  fixed : seeks_highest x ≡ true → is_minimum x.size ≡ false
   fixed seeks =
-      go x.size (is_highest x.criterion) (is_sought x.least x.criterion step.goal valid.goal seeks).0
+      go x.size (is_highest x.criterion) (is_sought x seeks).0
       (not-true _ (and_parts _ _ together).1)
     where
       go : (size : Size) (highest : Bool) → highest ≡ true
@@ -230,13 +223,13 @@ module _ (step : Meaning) (valid : IsValidStep step) where
       go Minimum true h out = absurd (both_ways _ out refl)
       go Minimum false h out = absurd (both_ways _ refl h)
 
-  unblocked : seeks_highest x.least step.goal ≡ true → has_most x.blocks ≡ false
+  unblocked : seeks_highest x ≡ true → has_most x.blocks ≡ false
   unblocked seeks =
       go x.blocks (is_highest x.criterion) x.least sought.0 sought.1
       (not-true _ (and_parts _ _ (and_parts _ _ together).0).1)
     where
       sought : (is_highest x.criterion ≡ true) × (x.least ≡ false)
-      sought = is_sought x.least x.criterion step.goal valid.goal seeks
+      sought = is_sought x seeks
 
       go : (given : Blocks) (highest least : Bool) → highest ≡ true → least ≡ false
           → (has_blocks given && (least || (highest && has_most given))) ≡ false → has_most given ≡ false
@@ -290,20 +283,28 @@ module _ (step : Meaning) (valid : IsValidStep step) where
     -- what it asks may be asked
     pub requirement_valid : CanBeAsked
         (record { q = x.q; m = m; s = length step.factors; t = block_factors x.blocks m n })
-        (requirement_for x.least step.goal n)
+        (requirement_for step n)
     requirement_valid =
-        can_be_asked x.q m (length step.factors) (block_factors x.blocks m n) n x.least x.criterion step.goal
-        criterion_fits valid.goal valid.effects
+        go (seeks_highest x)
         (λ seeks. resolutions step n x.size (fixed seeks) (unblocked seeks) few_factors_in low high seeks)
+      where
+        go : (seeks : Bool) → (seeks ≡ true → (3 ≤ n) × (n ≤ 99))
+            → CanBeAsked (record { q = x.q; m = m; s = length step.factors; t = block_factors x.blocks m n })
+            (if seeks then AtResolution n else step.requirement)
+        go true bounds = bounds refl
+        go false bounds =
+            can_be_asked x.q m (length step.factors) (block_factors x.blocks m n) x.criterion step.requirement
+            criterion_fits valid.kind valid.effects
 
     pub least_valid : IsTrue x.least
-        → IsTrue (is_resolution (requirement_for x.least step.goal n)) × (block_factors x.blocks m n ≡ 0)
+        → IsTrue (is_resolution (requirement_for step n)) × (block_factors x.blocks m n ≡ 0)
     least_valid h =
         let with : stand_together x.size x.criterion true x.blocks ≡ true =
         subst (λ b. stand_together x.size x.criterion b x.blocks ≡ true) h together in (
-          subst (λ b. IsTrue (is_resolution (requirement_for b step.goal n))) (sym h)
-              (resolution_asked x.size x.blocks x.criterion step.goal valid.goal with n),
-          without_blocks x.size x.blocks x.criterion step.goal valid.goal with m n,
+          rw (seeks_with_least x h)
+              (resolution_required x.criterion step.requirement valid.kind
+              (no_effects x.size x.blocks x.criterion with)),
+          without_blocks x.size x.blocks x.criterion with m n,
         )
 
   -- there is such a number
@@ -319,7 +320,7 @@ module _ (step : Meaning) (valid : IsValidStep step) where
       sizes_fit x.blocks (subst (λ z. are_blocks x.q z x.blocks ≡ true) is (bounds.given x valid.settings))
   at_least_one (Runs m) is =
       let fits = subst (λ z. is_size x.q z ≡ true) is (bounds.size x valid.settings) in
-      ordered (has_most x.blocks) (seeks_highest x.least step.goal)
+      ordered (has_most x.blocks) (seeks_highest x)
       (leb-true 1 m (and_parts (nat_le 1 m) (nat_le (x.q ^ m) 1024) fits).0)
     where
       ordered : (most seeks : Bool) → 1 ≤ m
@@ -332,25 +333,10 @@ module _ (step : Meaning) (valid : IsValidStep step) where
   some_numbers n is = subst (λ k. k ≤ highest step x.size) (sym is) (at_least_one x.size refl)
 
 -- a step that is kept is valid
-kept_kind : (w : Wanted) → IsOfKind (criterion_wanted w) (goal_of w)
-kept_kind (wanted.Resolution r) = refl
-kept_kind wanted.Highest = tt
-kept_kind (wanted.Effects estimate others) = tt
-
-kept_effects : (q s : ℕ) (w : Wanted) → CanBeWanted q s w → HasFewEffects w → CanBeSought q s (goal_of w)
-kept_effects q s (wanted.Resolution r) askable few = tt
-kept_effects q s wanted.Highest askable few = tt
-kept_effects q s (wanted.Effects estimate others) askable few =
-    let both = few estimate others refl in (
-      askable estimate others refl,
-      omega (arith, both.0, length-map estimate (λ (e : Effect). e.0)),
-      omega (arith, both.1, length-map others (λ (e : Effect). e.0)),
-    )
-
 pub kept_valid : (step : Step) → IsValidStep (meaning_of step)
 kept_valid step = record {
   settings = step.settings_valid;
-  goal = kept_kind step.wanted;
+  kind = step.kind;
   factors = step.factor_count;
-  effects = kept_effects step.q (length step.factors) step.wanted step.effects_askable step.few_effects;
+  effects = step.effects_askable;
 }

@@ -1,7 +1,6 @@
 -- What is claimed of the outcome of a step, over all rule matrices, canonical or not.
 use Rattle.std.specs.Prelude.{ℕ, ◌≡◌, ◌<◌, ◌≤◌, ◌+◌, true, false, List, ◌∷◌, ◌++◌, length, All, Option, Some, None}
-use Rattle.fx_designs.specs.Problems.{Dimensions, Problem, Requirement, AtResolution}
-use Rattle.fx_designs.specs.Problems as problems
+use Rattle.fx_designs.specs.Problems.{Dimensions, Problem, AtResolution}
 use Rattle.fx_designs.specs.Answers.{is_design}
 use Rattle.fx_designs.specs.Demands.{is_met}
 use Rattle.fx_designs.specs.Outcomes.{Ending, Design, NoDesign, BudgetEnded}
@@ -10,17 +9,11 @@ use Rattle.fx_reduction.specs.BlockedResolutions.{IsHighestInBlocks}
 use Rattle.fx_reduction.specs.Resolutions.{HasLeastPattern, HighestOfAll}
 use Rattle.fx_settings.specs.declared.settings.Size.TheVariants.{Minimum}
 use Rattle.fx_settings.specs.declared.settings.Blocks.TheVariants.{Most}
+use Rattle.fx_settings.specs.declared.settings.Criterion.TheVariants.{Highest}
 use Rattle.fx_settings.specs.Powers.{greatest}
 use Rattle.fx_settings.specs.Valid.{has_blocks}
-use Rattle.fx_statements.specs.Goals.{Goal, AtLeast, Highest, ForEffects}
 use Rattle.fx_statements.specs.Questions.{Conclusion, block_factors, least_exponent, outcome_of, run_factors}
 use Rattle.fx_statements.specs.Steps.{Meaning}
-
--- what is required of each design of a step; where the highest resolution is wanted, a resolution of at least 3
-abbrev pub required : Goal → Requirement
-required (AtLeast r) = AtResolution r
-required Highest = AtResolution 3
-required (ForEffects estimate besides) = problems.ForEffects estimate besides
 
 -- Dimensions that a step allows: its levels and factors; its runs, for the least size any number from the least that
 -- makes more than one run, and in blocks of q^k runs more than one block, to the greatest; its block factors, for the
@@ -37,7 +30,7 @@ pub record Allows (step : Meaning) (d : Dimensions) : Type 0 where
 pub record IsAsItAsks (step : Meaning) (d : Dimensions) (rows : List ℕ) : Type 0 where
   pub allowed : Allows step d
   pub whole : length rows ≡ d.s + d.t
-  pub met : is_met d (required step.goal) rows ≡ true
+  pub met : is_met d step.requirement rows ≡ true
 
 -- the rows of the matrix that comes with an ending: of its design, or of what is left where the budget ended
 abbrev pub rows_in : Ending → Option (List ℕ)
@@ -63,19 +56,19 @@ abbrev pub HasNoneAtAll : Meaning → Conclusion → Type 0
 HasNoneAtAll step outcome = (count : ℕ) (d : Dimensions)
     → outcome.ending ≡ NoDesign count
     → Allows step d
-    → NoneMeets d (required step.goal)
+    → NoneMeets d step.requirement
 
 -- where least aberration is asked, the pattern of no rule matrix that meets what is required is less than the design's
 abbrev pub HasLeastOfAll : Meaning → Conclusion → Type 0
 HasLeastOfAll step outcome = (rows : List ℕ) (count : ℕ)
     → step.settings.least ≡ true
     → outcome.ending ≡ Design rows count
-    → HasLeastPattern outcome.dimensions (required step.goal) rows
+    → HasLeastPattern outcome.dimensions step.requirement rows
 
 -- where the highest resolution is asked, without blocks, no rule matrix has a higher one than the design
 abbrev pub HasHighestOfAll : Meaning → Conclusion → Type 0
 HasHighestOfAll step outcome = (rows : List ℕ) (count : ℕ)
-    → step.goal ≡ Highest
+    → step.settings.criterion ≡ Highest
     → has_blocks step.settings.blocks ≡ false
     → outcome.ending ≡ Design rows count
     → HighestOfAll outcome.dimensions rows
@@ -84,7 +77,7 @@ HasHighestOfAll step outcome = (rows : List ℕ) (count : ℕ)
 -- where the budget ended
 abbrev pub MeetsWhatItReached : Meaning → Conclusion → Type 0
 MeetsWhatItReached step outcome = (rows : List ℕ)
-    → step.goal ≡ Highest
+    → step.settings.criterion ≡ Highest
     → has_blocks step.settings.blocks ≡ true
     → rows_in outcome.ending ≡ Some rows
     → (3 ≤ outcome.reached) × (is_met outcome.dimensions (AtResolution outcome.reached) rows ≡ true)
@@ -92,7 +85,7 @@ MeetsWhatItReached step outcome = (rows : List ℕ)
 -- and no rule matrix with as many block factors meets a higher one than the design
 abbrev pub HasHighestInBlocks : Meaning → Conclusion → Type 0
 HasHighestInBlocks step outcome = (rows : List ℕ) (count : ℕ)
-    → step.goal ≡ Highest
+    → step.settings.criterion ≡ Highest
     → has_blocks step.settings.blocks ≡ true
     → outcome.ending ≡ Design rows count
     → IsHighestInBlocks outcome.dimensions rows outcome.reached
@@ -104,7 +97,7 @@ HasLeastSize step outcome = (rows : List ℕ) (count : ℕ) (d : Dimensions)
     → outcome.ending ≡ Design rows count
     → Allows step d
     → d.m < outcome.dimensions.m
-    → NoneMeets d (required step.goal)
+    → NoneMeets d step.requirement
 
 -- where the most blocks are asked, no rule matrix with more block factors than the design's meets what is required
 abbrev pub HasMostBlocks : Meaning → Conclusion → Type 0
@@ -113,7 +106,7 @@ HasMostBlocks step outcome = (rows : List ℕ) (count : ℕ) (d : Dimensions)
     → outcome.ending ≡ Design rows count
     → Allows step d
     → outcome.dimensions.t < d.t
-    → NoneMeets d (required step.goal)
+    → NoneMeets d step.requirement
 
 -- all of these
 pub record ClaimsHold (step : Meaning) (outcome : Conclusion) : Type 0 where

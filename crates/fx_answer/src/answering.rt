@@ -110,10 +110,10 @@ fn ask_from<R: Threads + Sync, G: Gate>(
     finished: Finished,
 ) -> Result<Outcome, NoMemory>
     requires threads { (0 < threads) × (threads ≤ 64) }
-    requires low { lowest (meaning_of step.now) step.now.size ≤ n }
-    requires high { n ≤ highest (meaning_of step.now) step.now.size }
+    requires low { lowest (meaning_of step.now) step.now.settings.size ≤ n }
+    requires high { n ≤ highest (meaning_of step.now) step.now.settings.size }
     requires words { (k : ℕ) → AreForbidden (question_for (meaning_of step.now) k) words.now }
-    requires within { finished.nodes ≤ step.now.budget }
+    requires within { finished.nodes ≤ step.now.settings.budget }
     requires found { IsOf (meaning_of step.now) finished.found }
     requires whole { IsWhole finished.found }
     ensures of_step { IfOk result (IsOutcomeOf (meaning_of step.now)) }
@@ -138,7 +138,7 @@ fn ask_from<R: Threads + Sync, G: Gate>(
         alloc,
         &question,
         words,
-        step.budget - finished.nodes,
+        step.settings.budget - finished.nodes,
         threads,
         Alone::few(),
         gate,
@@ -173,7 +173,13 @@ fn ask_from<R: Threads + Sync, G: Gate>(
         }
         Asked::Budget { best } => {
             let reached = reached_beside(&best, finished.reached);
-            Ok(cut_short(shape, best.or(finished.found), reached, step.budget, books))
+            Ok(cut_short(
+                shape,
+                best.or(finished.found),
+                reached,
+                step.settings.budget,
+                books,
+            ))
         }
     }
 }
@@ -193,10 +199,10 @@ fn go_on<R: Threads + Sync, G: Gate>(
     finished: Finished,
 ) -> Result<Outcome, NoMemory>
     requires threads { (0 < threads) × (threads ≤ 64) }
-    requires low { lowest (meaning_of step.now) step.now.size ≤ n }
-    requires high { n ≤ highest (meaning_of step.now) step.now.size }
+    requires low { lowest (meaning_of step.now) step.now.settings.size ≤ n }
+    requires high { n ≤ highest (meaning_of step.now) step.now.settings.size }
     requires words { (k : ℕ) → AreForbidden (question_for (meaning_of step.now) k) words.now }
-    requires within { finished.nodes ≤ step.now.budget }
+    requires within { finished.nodes ≤ step.now.settings.budget }
     requires shape { IsShapeOf (meaning_of step.now) shape }
     requires dimensions { (question_for (meaning_of step.now) n).dimensions ≡ dimensions_of shape }
     requires answered { is_answered ≡ is_some (answer (question_for (meaning_of step.now) n)) }
@@ -214,7 +220,7 @@ fn go_on<R: Threads + Sync, G: Gate>(
         → finished.books ≡ books_from 1 earlier
         → outcome.books ≡ all_books_past (meaning_of step.now) earlier n) }
 {
-    if n == highest(step) || is_last(step.size, is_answered) {
+    if n == highest(step) || is_last(step.settings.size, is_answered) {
         return Ok(concluded(shape, finished));
     }
     ask_from(rt, alloc, step, words, threads, gate, n + 1, finished)

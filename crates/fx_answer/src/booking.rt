@@ -16,8 +16,8 @@ use std::alloc::Global;
 
 /// Which of the questions of a step is that for `n`, counted from 1.
 pub(crate) fn question_number(step: &Step, n: u8) -> u32
-    requires { lowest (meaning_of step.now) step.now.size ≤ n }
-    ensures { result ≡ 1 + (n - lowest (meaning_of step.now) step.now.size) }
+    requires { lowest (meaning_of step.now) step.now.settings.size ≤ n }
+    ensures { result ≡ 1 + (n - lowest (meaning_of step.now) step.now.settings.size) }
 {
     1 + u32::from(n - lowest(step))
 }

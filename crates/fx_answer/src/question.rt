@@ -2,7 +2,6 @@ ghost use Rattle.std.specs.Prelude.{◌≡◌, ◌≤◌, ◌<◌, ℕ, IfOk};
 ghost use Rattle.fx_settings.specs.declared.settings.Blocks.TheVariants.{PerBlock};
 ghost use Rattle.fx_vectors.specs.Question.{IsValid, problem_of, requirement_of};
 ghost use Rattle.fx_vectors.specs.Shape.{dimensions_of};
-ghost use Rattle.fx_statements.specs.Goals.{goal_of};
 ghost use Rattle.fx_statements.specs.Steps.{meaning_of};
 ghost use Rattle.fx_statements.specs.Questions.{
   block_factors,
@@ -19,31 +18,37 @@ ghost use Rattle.fx_answer.specs.Standing.{IsShapeOf};
 
 use fx_base::NoMemory;
 use fx_settings::greatest;
-use fx_statements::{Blocks, Size, Step, Wanted};
+use fx_statements::{Blocks, Size, Step, StepSettings};
 use fx_vectors::{Demands, Effects, Question, Shape};
 use std::alloc::Global;
 
 /// The first number for which a step asks a question: a size, a number of block factors or a
 /// resolution, whichever it leaves free.
 pub(crate) fn lowest(step: &Step) -> u8
-    ensures { result ≡ lowest (meaning_of step.now) step.now.size }
+    ensures { result ≡ lowest (meaning_of step.now) step.now.settings.size }
 {
-    match step.size {
-        Size::Minimum => least_exponent(step.blocks),
-        Size::Runs { .. } => { if step.blocks.are_most() { 1 } else { 3 } }
+    match step.settings.size {
+        Size::Minimum => least_exponent(step.settings.blocks),
+        Size::Runs { .. } => {
+            if step.settings.blocks.are_most() {
+                1
+            } else {
+                3
+            }
+        }
     }
 }
 
 /// The last number.
 pub(crate) fn highest(step: &Step) -> u8
-    ensures { result ≡ highest (meaning_of step.now) step.now.size }
+    ensures { result ≡ highest (meaning_of step.now) step.now.settings.size }
 {
-    match step.size {
-        Size::Minimum => greatest(step.q),
+    match step.settings.size {
+        Size::Minimum => greatest(step.settings.q),
         Size::Runs { m } => {
-            if step.blocks.are_most() {
+            if step.settings.blocks.are_most() {
                 m
-            } else if seeks_highest(&step.wanted, step.least) {
+            } else if seeks_highest(step.settings) {
                 (step.factors.len() as u8 + 1).max(3)
             } else {
                 3
@@ -59,32 +64,32 @@ pub(crate) fn highest(step: &Step) -> u8
 ///
 /// `NoMemory`.
 pub fn question_for(alloc: Global, step: &Step, n: u8) -> Result<Question, NoMemory>
-    requires low { lowest (meaning_of step.now) step.now.size ≤ n }
-    requires high { n ≤ highest (meaning_of step.now) step.now.size }
+    requires low { lowest (meaning_of step.now) step.now.settings.size ≤ n }
+    requires high { n ≤ highest (meaning_of step.now) step.now.settings.size }
     ensures problem { IfOk result (λ question. problem_of question ≡ question_for (meaning_of step.now) n) }
     ensures valid { IfOk result IsValid }
     ensures of_step { IfOk result (λ question. IsShapeOf (meaning_of step.now) question.shape) }
 {
     Ok(Question {
         shape: shape_for(step, n),
-        demands: demands_for(alloc, &step.wanted, step.least, n)?,
-        least: step.least,
+        demands: demands_for(alloc, step, n)?,
+        least: step.settings.least,
     })
 }
 
 /// The shape of the designs that the question for the number `n` is about.
 fn shape_for(step: &Step, n: u8) -> Shape
-    requires low { lowest (meaning_of step.now) step.now.size ≤ n }
-    requires high { n ≤ highest (meaning_of step.now) step.now.size }
+    requires low { lowest (meaning_of step.now) step.now.settings.size ≤ n }
+    requires high { n ≤ highest (meaning_of step.now) step.now.settings.size }
     ensures dimensions { dimensions_of result ≡ (question_for (meaning_of step.now) n).dimensions }
     ensures of_step { IsShapeOf (meaning_of step.now) result }
 {
-    let m = run_factors(step.size, n);
+    let m = run_factors(step.settings.size, n);
     Shape {
-        q: step.q,
+        q: step.settings.q,
         m,
         s: step.factors.len() as u8,
-        t: block_factors(step.blocks, m, n),
+        t: block_factors(step.settings.blocks, m, n),
     }
 }
 
@@ -122,26 +127,31 @@ fn least_exponent(blocks: Blocks) -> u8
 }
 
 /// Whether the resolution is free. With a least pattern each design has the highest.
-fn seeks_highest(wanted: &Wanted, least: bool) -> bool
-    ensures { result ≡ seeks_highest least (goal_of wanted.now) }
+fn seeks_highest(settings: StepSettings) -> bool
+    ensures { result ≡ seeks_highest settings }
 {
-    match wanted {
-        Wanted::Highest => !least,
-        Wanted::Resolution { .. } | Wanted::Effects { .. } => false,
-    }
+    settings.criterion.is_highest() && !settings.least
 }
 
 /// What is demanded of one design by the question for the number `n`.
-fn demands_for(alloc: Global, wanted: &Wanted, least: bool, n: u8) -> Result<Demands, NoMemory>
+fn demands_for(alloc: Global, step: &Step, n: u8) -> Result<Demands, NoMemory>
     ensures { IfOk result (λ demands.
-        requirement_of demands ≡ requirement_for least (goal_of wanted.now) n) }
+        requirement_of demands ≡ requirement_for (meaning_of step.now) n) }
 {
-    match wanted {
-        Wanted::Resolution { r } => Ok(Demands::Resolution { r: *r }),
-        Wanted::Highest => Ok(Demands::Resolution {
-            r: if least { 3 } else { n },
-        }),
-        Wanted::Effects {
+    if seeks_highest(step.settings) {
+        Ok(Demands::Resolution { r: n })
+    } else {
+        copied(alloc, &step.demands)
+    }
+}
+
+/// The same demands once more.
+fn copied(alloc: Global, demands: &Demands) -> Result<Demands, NoMemory>
+    ensures { IfOk result (λ copy. requirement_of copy ≡ requirement_of demands.now) }
+{
+    match demands {
+        Demands::Resolution { r } => Ok(Demands::Resolution { r: *r }),
+        Demands::Effects {
             estimate,
             nonnegligible,
         } => Ok(Demands::Effects {

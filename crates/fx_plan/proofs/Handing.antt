@@ -11,7 +11,6 @@ use Rattle.fx_runs.specs.Runs.{design_of}
 use Rattle.fx_vectors.specs.Matrix.{MatrixView}
 use Rattle.fx_statements.specs.declared.step.Step.{Step}
 use Rattle.fx_statements.specs.Contexts.{block_count, context}
-use Rattle.fx_statements.specs.Valid.{settings_in}
 use Rattle.fx_plan.specs.Products.{CanBePlanned}
 use Rattle.fx_plan.specs.Steps.{IsDesignOf}
 
@@ -29,17 +28,16 @@ values_for_blocks q t Most values none own e = absurd (cc e)
 pub can_be_planned : (step : Step) (matrix : MatrixView) (output : OutputSpec) → IsDesignOf step matrix
     → Contains step.outputs output → CanBePlanned step.factors (design_of matrix) output
 can_be_planned step matrix output design asked =
-    let known = All-contains
-    (IsWithinLimits (context step.factors
-    (settings_in step.q step.budget step.size step.wanted step.least step.blocks)))
-    step.outputs output step.outputs_within_limits asked in
+    let known =
+    All-contains (IsWithinLimits (context step.factors step.settings)) step.outputs output step.outputs_within_limits
+    asked in
     record {
       names = sym design.factors;
       recodes = λ k d low. (known.recodes.each k d low).each_level ∙ sym design.levels;
       derived = rw (design.levels, design.factors) known.derived;
       block_values =
           λ some. rw design.levels
-          (values_for_blocks step.q matrix.shape.t step.blocks output.block_values design.unblocked
+          (values_for_blocks step.settings.q matrix.shape.t step.settings.blocks output.block_values design.unblocked
           design.block_factors (known.block_values some));
       few_blocks = design.few;
     }

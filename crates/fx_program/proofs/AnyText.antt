@@ -3,6 +3,7 @@ use Rattle.std.proofs.Common.{◌≡◌, ◌≤◌, ◌++◌, Bool, true, false,
 use Rattle.std.proofs.Common.{Ok, Err, refl, sym, subst, arith, All, ◌∙◌}
 use Rattle.std.specs.Prelude.{is_some, nat_lt, if◌then◌else◌}
 use Rattle.std.proofs.lemmas.List.Elements.{All-nil, All-push}
+use Rattle.fx_designs.specs.Problems.{Requirement, AtResolution}
 use Rattle.fx_lexer.specs.declared.token.Token.{Token}
 use Rattle.fx_lexer.specs.declared.token.LexFault.{LexFault}
 use Rattle.fx_lexer.specs.Lexing.{lexed}
@@ -30,97 +31,80 @@ use Rattle.fx_effects.specs.Models.{lists_of}
 use Rattle.fx_statements.specs.Contexts.{context}
 use Rattle.fx_statements.specs.Folds.{fold_of}
 use Rattle.fx_statements.specs.Components.{check_components, components_place}
-use Rattle.fx_statements.specs.Goals.{Goal, AtLeast, Highest, effects_goal, effects_wanted, goal_by}
+use Rattle.fx_statements.specs.Requirements.{IsOfKind, effects_by, effects_required, requirement_by}
 use Rattle.fx_statements.specs.Steps.{Meaning, asked_by, examine_of, factors_by, head_of, factor_limit, some_factors}
 use Rattle.fx_statements.specs.Steps.{plans_after, step_by, step_of}
 use Rattle.fx_statements.specs.Programs.{accepted, program_of, steps_behind}
-use Rattle.fx_statements.specs.Valid.{is_count, most_factors_of}
+use Rattle.fx_statements.specs.Valid.{CanBeRequired, is_count, most_factors_of}
 use Rattle.fx_statements.proofs.Bounds.{counted, kept, levels_said, most_of_all, unsaid, without}
 use Rattle.fx_settings.proofs.Within.{factors_within}
 use Rattle.fx_effects.proofs.Within.{lists_told}
 use Rattle.fx_program.specs.Texts.{at_front, or_refused, program_by, program_in}
 use Rattle.fx_program.specs.Claims.{EachStep}
-use Rattle.fx_answer.specs.ValidSteps.{CanBeSought, IsOfKind, IsValidStep}
+use Rattle.fx_answer.specs.ValidSteps.{IsValidStep}
 use Rattle.fx_vectors.specs.declared.shape.TheConstants.{MOST_FACTORS}
 
--- the goal is of the kind that the settings say
-by_effects : (q : ℕ) (factors : List (List ℕ)) (s : List Written) (goal : Goal) → effects_goal q factors s ≡ Ok goal
-    → IsOfKind criterion.Effects goal
-by_effects q factors s goal e =
-    let lists = bind_ok (lists_of q factors s) _ goal e in
-    subst (IsOfKind criterion.Effects) (same_ok _ goal lists.2) tt
+-- a requirement of this kind, whose effects may be asked for
+abbrev IsFit : ℕ → ℕ → Criterion → Requirement → Type 0
+IsFit q s kind requirement = IsOfKind kind requirement × CanBeRequired q s requirement
 
-effects_kind : (q : ℕ) (factors : List (List ℕ)) (model : Option (List Written)) (goal : Goal)
-    → effects_wanted q factors model ≡ Ok goal
-    → IsOfKind criterion.Effects goal
-effects_kind q factors None goal e = by_effects q factors [] goal e
-effects_kind q factors (Some s) goal e = by_effects q factors s goal e
-
-goal_kind : (q : ℕ) (factors : List (List ℕ)) (statements : List (List Written)) (kind : Criterion) (goal : Goal)
-    → goal_by q factors statements kind ≡ Ok goal
-    → IsOfKind kind goal
-goal_kind q factors statements (criterion.Resolution r) goal e =
-    subst (IsOfKind (criterion.Resolution r)) (same_ok (AtLeast r) goal e) refl
-goal_kind q factors statements criterion.Highest goal e = subst (IsOfKind criterion.Highest) (same_ok Highest goal e) tt
-goal_kind q factors statements criterion.Effects goal e =
-    effects_kind q factors (statement_of word.Model statements) goal e
-
--- and the effects that it names may be asked for
-by_lists : (q : ℕ) (factors : List (List ℕ)) → length factors ≤ MOST_FACTORS → (s : List Written) (goal : Goal)
-    → effects_goal q factors s ≡ Ok goal → CanBeSought q (length factors) goal
-by_lists q factors few s goal e =
-    let lists = bind_ok (lists_of q factors s) _ goal e in
-    subst (CanBeSought q (length factors)) (same_ok _ goal lists.2) (lists_told factors few q s lists.0 lists.1)
+by_lists : (q : ℕ) (factors : List (List ℕ)) → length factors ≤ MOST_FACTORS → (s : List Written)
+    (requirement : Requirement)
+    → effects_by q factors s ≡ Ok requirement
+    → IsFit q (length factors) criterion.Effects requirement
+by_lists q factors few s requirement e =
+    let lists = bind_ok (lists_of q factors s) _ requirement e in
+    subst (IsFit q (length factors) criterion.Effects) (same_ok _ requirement lists.2)
+    (refl, lists_told factors few q s lists.0 lists.1)
 
 by_model : (q : ℕ) (factors : List (List ℕ)) → length factors ≤ MOST_FACTORS
-    → (model : Option (List Written)) (goal : Goal)
-    → effects_wanted q factors model ≡ Ok goal
-    → CanBeSought q (length factors) goal
-by_model q factors few None goal e = by_lists q factors few [] goal e
-by_model q factors few (Some s) goal e = by_lists q factors few s goal e
+    → (model : Option (List Written)) (requirement : Requirement)
+    → effects_required q factors model ≡ Ok requirement
+    → IsFit q (length factors) criterion.Effects requirement
+by_model q factors few None requirement e = by_lists q factors few [] requirement e
+by_model q factors few (Some s) requirement e = by_lists q factors few s requirement e
 
-goal_sought : (q : ℕ) (factors : List (List ℕ)) → length factors ≤ MOST_FACTORS
-    → (statements : List (List Written)) (kind : Criterion) (goal : Goal) → goal_by q factors statements kind ≡ Ok goal
-    → CanBeSought q (length factors) goal
-goal_sought q factors few statements (criterion.Resolution r) goal e =
-    subst (CanBeSought q (length factors)) (same_ok (AtLeast r) goal e) tt
-goal_sought q factors few statements criterion.Highest goal e =
-    subst (CanBeSought q (length factors)) (same_ok Highest goal e) tt
-goal_sought q factors few statements criterion.Effects goal e =
-    by_model q factors few (statement_of word.Model statements) goal e
+fit : (q : ℕ) (factors : List (List ℕ)) → length factors ≤ MOST_FACTORS
+    → (statements : List (List Written)) (kind : Criterion) (requirement : Requirement)
+    → requirement_by q factors statements kind ≡ Ok requirement
+    → IsFit q (length factors) kind requirement
+fit q factors few statements (criterion.Resolution r) requirement e =
+    subst (IsFit q (length factors) (criterion.Resolution r)) (same_ok (AtResolution r) requirement e) (refl, tt)
+fit q factors few statements criterion.Highest requirement e =
+    subst (IsFit q (length factors) criterion.Highest) (same_ok (AtResolution 3) requirement e) (refl, tt)
+fit q factors few statements criterion.Effects requirement e =
+    by_model q factors few (statement_of word.Model statements) requirement e
 
 -- what is read of a step with these factors
-abbrev IsRead : List (List ℕ) → StepSettings × Goal → Type 0
+abbrev IsRead : List (List ℕ) → StepSettings × Requirement → Type 0
 IsRead factors asked =
-    (are_valid asked.0 ≡ true) × IsOfKind asked.0.criterion asked.1
+    (are_valid asked.0 ≡ true) × IsFit asked.0.q (length factors) asked.0.criterion asked.1
     × (is_count asked.0.q (length factors) asked.0.blocks ≡ true)
-    × CanBeSought asked.0.q (length factors) asked.1
 
 asked_read : (factors : List (List ℕ)) (head named : List Written) (statements : List (List Written))
-    (asked : StepSettings × Goal) → 1 ≤ length factors
+    (asked : StepSettings × Requirement) → 1 ≤ length factors
     → length factors ≤ factor_limit named statements
     → asked_by factors (step_said head named statements) statements ≡ Ok asked → IsRead factors asked
 asked_read factors head named statements asked one few e =
     let said : StepSaid = step_said head named statements in
     let first = bind_ok (unblocked_of (length factors) said) _ asked e in
-    let goal = bind_ok (goal_by first.0.q factors statements first.0.criterion) _ asked first.2 in
-    let settings = bind_ok (step_settings_of first.0 said) _ asked goal.2 in
+    let required = bind_ok (requirement_by first.0.q factors statements first.0.criterion) _ asked first.2 in
+    let settings = bind_ok (step_settings_of first.0 said) _ asked required.2 in
     let listed =
-    bind_ok (check_components first.0.q (length factors) goal.0 (components_place statements)) _ asked settings.2 in
+    bind_ok (check_components first.0.q (length factors) required.0 (components_place statements)) _ asked settings.2 in
     let same = kept first.0 said settings.0 settings.1 in
     let levels : settings.0.q ≡ levels_of said = same.1 ∙ levels_said (length factors) said first.0 first.1 in
     let most = most_of_all (levels_of said) (is_some (statement_of word.Blocks statements)) in
     let short : length factors ≤ MOST_FACTORS = omega (arith, few, most) in
-    subst (IsRead factors) (same_ok (settings.0, goal.0) asked listed.2) (
+    subst (IsRead factors) (same_ok (settings.0, required.0) asked listed.2) (
       valid (length factors) said first.0 settings.0 first.1 settings.1,
-      subst (λ kind. IsOfKind kind goal.0) (sym same.0)
-          (goal_kind first.0.q factors statements first.0.criterion goal.0 goal.1),
+      subst (λ kind. IsFit settings.0.q (length factors) kind required.0) (sym same.0)
+          (subst (λ q. IsFit q (length factors) first.0.criterion required.0) (sym same.1)
+          (fit first.0.q factors short statements first.0.criterion required.0 required.1)),
       counted settings.0.q statements (length factors) settings.0.blocks
           (λ none. without first.0 said settings.0 (unsaid head named statements said refl none) settings.1) one
           (subst (λ q. length factors ≤ most_factors_of q (is_some (statement_of word.Blocks statements))) (sym levels)
           few),
-      subst (λ q. CanBeSought q (length factors) goal.0) (sym same.1)
-          (goal_sought first.0.q factors short statements first.0.criterion goal.0 goal.1),
     )
 
 pub some_same : (proc : Place) (found factors : List (List ℕ)) → some_factors proc found ≡ Ok factors → found ≡ factors
@@ -151,7 +135,7 @@ module _ (Claimed : Meaning → Type 0) (claim : (step : Meaning) → IsValidSte
       record {
         factors = factors.0;
         settings = asked.0.0;
-        goal = asked.0.1;
+        requirement = asked.0.1;
         examine = examine_of statements;
         fold = fold.0;
         outputs = outputs.0;
@@ -162,7 +146,7 @@ module _ (Claimed : Meaning → Type 0) (claim : (step : Meaning) → IsValidSte
       (factors_within (factor_limit given statements) given found.0 found.1) in
       let read = asked_read factors.0 (head_of statements) given statements asked.0 one few asked.1 in
       subst Claimed (same_ok whole step outputs.2)
-      (claim whole (record { settings = read.0; goal = read.1; factors = read.2; effects = read.3 }))
+      (claim whole (record { settings = read.0; kind = read.1.0; factors = read.2; effects = read.1.1 }))
 
   -- step by step
   all_read : (earlier : List EarlierPlan) (done : List Meaning) (groups : List (List (List Written)))

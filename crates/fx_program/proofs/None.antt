@@ -16,7 +16,7 @@ use Rattle.fx_statements.specs.Questions.{Conclusion, Found, asked, concluded, c
 use Rattle.fx_statements.specs.Questions.{nodes_of, outcome_of, questions_of, reached_at}
 use Rattle.fx_statements.proofs.Concluded.{passed, within}
 use Rattle.fx_program.specs.Statuses.{status_of}
-use Rattle.fx_answer.specs.StepClaims.{Allows, required, rows_in}
+use Rattle.fx_answer.specs.StepClaims.{Allows, rows_in}
 use Rattle.fx_answer.specs.ValidSteps.{IsValidStep}
 use Rattle.fx_answer.proofs.Best.{field, none_at_all, what_it_asks}
 
@@ -65,19 +65,19 @@ module _ (step : Meaning) where
 
   module _ (valid : IsValidStep step) where
     pub one_told : status_of (outcome_of step).ending ≡ 1 → (d : Dimensions) → Allows step d
-        → NoneMeets d (required step.goal)
+        → NoneMeets d step.requirement
     one_told one d h = (let none = none_at_one (outcome_of step).ending one in none_at_all step valid none.0 d none.1 h)
 
     by_found : (p : Problem) (found : Option Found) (count : ℕ) → outcome_of step ≡ concluded p found count
-        → ((d : Dimensions) → Allows step d → NoneMeets d (required step.goal)) → status_of (outcome_of step).ending ≡ 1
+        → ((d : Dimensions) → Allows step d → NoneMeets d step.requirement) → status_of (outcome_of step).ending ≡ 1
     by_found p None count is none = ap (λ (c : Conclusion). status_of c.ending) is
     by_found p (Some found) count is none =
         let d : Dimensions = (outcome_of step).dimensions in
         let own = what_it_asks step valid found.rows (ap (λ (c : Conclusion). rows_in c.ending) is) in
         let f : IsField d.q = subst IsField (sym own.allowed.levels) (field step valid) in
-        absurd (some_meets d f (required step.goal) found.rows own.whole own.met (none d own.allowed))
+        absurd (some_meets d f step.requirement found.rows own.whole own.met (none d own.allowed))
 
-    pub one_comes : nodes_of ps ≤ budget → ((d : Dimensions) → Allows step d → NoneMeets d (required step.goal))
+    pub one_comes : nodes_of ps ≤ budget → ((d : Dimensions) → Allows step d → NoneMeets d step.requirement)
         → status_of (outcome_of step).ending ≡ 1
     one_comes few none =
         by_found (last_of (questions_of step).first ps) (last_found None ps) (nodes_of ps)

@@ -24,7 +24,7 @@ use Rattle.fx_program.specs.Planning.{RuledView, met_by, planned_in, shape_given
 use Rattle.fx_program.specs.Statuses.{met_status}
 use Rattle.fx_program.specs.Output.{step_status}
 use Rattle.fx_program.specs.TableVerdicts.{claim_in}
-use Rattle.fx_answer.specs.StepClaims.{Allows, ClaimsHold, IsAsItAsks, OfOutcome, required}
+use Rattle.fx_answer.specs.StepClaims.{Allows, ClaimsHold, IsAsItAsks, OfOutcome}
 use Rattle.fx_program.specs.declared.text.TextFault.{TextFault}
 
 -- a claim on each step of a program; a text that is refused has none
@@ -50,7 +50,7 @@ pub record SomeHasNone (program : Result (List Meaning) TextFault) : Type 0 wher
   pub step : Meaning
   pub among : Contains steps step
   pub one : step_status step ≡ 1
-  pub none : (d : Dimensions) → Allows step d → NoneMeets d (required step.goal)
+  pub none : (d : Dimensions) → Allows step d → NoneMeets d step.requirement
 
 -- some of these steps ends with this status
 pub record SomeEndsWith {A : Type 0} (status_of : A → ℕ) (status : ℕ) (steps : List A) : Type 0 where

@@ -16,11 +16,12 @@ use Rattle.fx_language.specs.declared.symbol.Symbol.{Symbol}
 use Rattle.fx_language.specs.declared.symbol.Symbol.TheVariants.{Proc, Semicolon}
 use Rattle.fx_language.specs.Symbols.{is}
 use Rattle.fx_language.specs.Keywords.{symbols_of}
+use Rattle.fx_settings.specs.declared.settings.Criterion.{Criterion}
 use Rattle.fx_settings.specs.declared.settings.Size.{Size}
 use Rattle.fx_settings.specs.declared.settings.Size.TheVariants.{Runs, Minimum}
 use Rattle.fx_settings.specs.declared.settings.StepSettings.{StepSettings}
+use Rattle.fx_settings.specs.Models.{is_highest}
 use Rattle.fx_settings.specs.Valid.{has_most}
-use Rattle.fx_statements.specs.Goals.{Goal, AtLeast, Highest, ForEffects}
 use Rattle.fx_statements.specs.Questions.{question_for}
 use Rattle.fx_statements.specs.Steps.{Meaning, meaning_of}
 use Rattle.fx_statements.specs.declared.step.Step.{Step}
@@ -127,7 +128,8 @@ ruled_steps text parts starts steps =
     and_then (all_ruled text parts starts [] steps) (or_idle text (idle_part parts starts))
 
 -- the steps of a text with these parts, by the program that the text is without them
-abbrev pub planned_by : List ℕ → List Part → List ℕ → Result (List Meaning) TextFault → Result (List RuledView) PlanFault
+abbrev pub planned_by : List ℕ → List Part → List ℕ → Result (List Meaning) TextFault
+    → Result (List RuledView) PlanFault
 planned_by text parts starts (Err wrong) = Err (fault.Program wrong)
 planned_by text parts starts (Ok steps) = ruled_steps text parts starts steps
 
@@ -138,15 +140,14 @@ planned_in text =
     let parts = parts_of text in let program = blanked text parts in
     planned_by text parts (step_starts program) (program_in program)
 
--- whether the runs of a design meet the model of its step; without one there is nothing to meet
-abbrev pub met_by_goal : Goal → Dimensions → Requirement → List ℕ → Option Bool
-met_by_goal (AtLeast r) d wanted rows = Some (is_met d wanted rows)
-met_by_goal Highest d wanted rows = None
-met_by_goal (ForEffects estimate besides) d wanted rows = Some (is_met d wanted rows)
+-- whether the runs of a design meet what is required of them; under the highest resolution there is nothing to meet
+abbrev pub met_under : Criterion → Dimensions → Requirement → List ℕ → Option Bool
+met_under criterion d wanted rows = if is_highest criterion then None else Some (is_met d wanted rows)
 
 abbrev pub met_by : RuledView → Option Bool
 met_by ruled =
-    met_by_goal ruled.step.goal (dimensions_of ruled.matrix.shape) (question_for ruled.step 3).requirement ruled.matrix.rows
+    met_under ruled.step.settings.criterion (dimensions_of ruled.matrix.shape) (question_for ruled.step 3).requirement
+    ruled.matrix.rows
 
 -- what is given for a step with a given design, by its number, the seed and the earlier OUTPUT statements
 abbrev pub given_output : ℕ → ℕ → List AskedView → RuledView → Output

@@ -4,14 +4,13 @@ ghost use Rattle.fx_language.specs.declared.symbol.Symbol.TheVariants.{Proc, Sem
 ghost use Rattle.fx_language.specs.Symbols.{is};
 ghost use Rattle.fx_rules.specs.Laws.{IsOfRules};
 ghost use Rattle.fx_rules.specs.Parts.{IsWithin};
-ghost use Rattle.fx_statements.specs.Goals.{goal_of};
 ghost use Rattle.fx_statements.specs.Steps.{meaning_of};
 ghost use Rattle.fx_vectors.specs.Question.{IsValid, requirement_of};
 ghost use Rattle.fx_vectors.specs.Shape.{dimensions_of};
 ghost use Rattle.fx_program.specs.Commands.{command_of};
 ghost use Rattle.fx_program.specs.Ended.{IsEnded};
 ghost use Rattle.fx_program.specs.Outside.{IsCarriedOut, Lists, Writes, outside, shelf_view, sink_view, source_view};
-ghost use Rattle.fx_program.specs.Planning.{Explains, idle_part, is_searched, met_by, met_by_goal, part_before, place_of};
+ghost use Rattle.fx_program.specs.Planning.{Explains, idle_part, is_searched, met_by, met_under, part_before, place_of};
 ghost use Rattle.fx_program.specs.Planning.{planned_in, planned_output, ruled_in, ruled_steps, step_starts};
 ghost use Rattle.fx_program.specs.declared.words.Settings.TheVariants.{Plan};
 ghost use Rattle.fx_program.specs.declared.giving.Origin.TheVariants.{Rules};
@@ -30,7 +29,7 @@ use fx_base::{Bytes, Items, NoMemory, Shelf, Sink, Source, Taken, Values, read_a
 use fx_language::{Symbol, code, symbols};
 use fx_lexer::{LexStop, lex};
 use fx_rules::{Part, are_met, blanked, parts_of, place_after, read_rules};
-use fx_statements::{End, Outcome, Size, Step, Wanted};
+use fx_statements::{Criterion, End, Outcome, Size, Step};
 use fx_text::Place;
 use fx_vectors::{Books, Matrix, Question};
 use std::alloc::Global;
@@ -258,7 +257,7 @@ fn ruled_step<'a>(
     let question = question_for(alloc, step, ONLY)?;
     match read_rules(question.shape, &step.factors, &text[part.at..part.end]) {
         Ok(matrix) => {
-            let is_met = met_by(alloc, &step.wanted, &question, &matrix)?;
+            let is_met = met_under(alloc, step.settings.criterion, &question, &matrix)?;
             Ok(Ruled {
                 step,
                 matrix,
@@ -276,18 +275,18 @@ fn ruled_step<'a>(
 fn is_searched(step: &Step) -> bool
     ensures { result ≡ is_searched (meaning_of step.now).settings }
 {
-    let is_minimum = match step.size {
+    let is_minimum = match step.settings.size {
         Size::Minimum => true,
         Size::Runs { .. } => false,
     };
-    step.least || step.blocks.are_most() || is_minimum
+    step.settings.least || step.settings.blocks.are_most() || is_minimum
 }
 
-/// Whether the runs of a given design meet what is wanted; where the highest resolution is, there is nothing to
-/// meet.
-fn met_by(
+/// Whether the runs of a given design meet what is demanded of them; under the highest resolution there is nothing
+/// to meet.
+fn met_under(
     alloc: Global,
-    wanted: &Wanted,
+    criterion: Criterion,
     question: &Question,
     matrix: &Matrix,
 ) -> Result<Option<bool>, NoMemory>
@@ -295,16 +294,14 @@ fn met_by(
     requires given { IsOfRules question.now.shape matrix.now }
     ensures { IfOk result (λ met.
         met
-        ≡ met_by_goal (goal_of wanted.now) (dimensions_of question.now.shape)
+        ≡ met_under criterion (dimensions_of question.now.shape)
         (requirement_of question.now.demands) matrix.now.rows) }
 {
-    match wanted {
-        Wanted::Highest => Ok(None),
-        Wanted::Resolution { .. } | Wanted::Effects { .. } => {
-            let is_met = are_met(alloc, question, matrix)?;
-            Ok(Some(is_met))
-        }
+    if criterion.is_highest() {
+        return Ok(None);
     }
+    let is_met = are_met(alloc, question, matrix)?;
+    Ok(Some(is_met))
 }
 
 /// The place of the byte with this index.

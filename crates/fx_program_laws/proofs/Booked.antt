@@ -23,7 +23,6 @@ use Rattle.fx_statements.proofs.Concluded.{none-of}
 use Rattle.fx_book.specs.QuestionBooks.{beat_of, book_for, demands_for, has_book}
 use Rattle.fx_book.specs.Writing.{book_text}
 use Rattle.fx_answer.specs.Books.{book_at, books_from, books_of, finished, finished_before}
-use Rattle.fx_answer.specs.StepClaims.{required}
 use Rattle.fx_answer.specs.ValidSteps.{IsValidStep}
 use Rattle.fx_answer.proofs.Best.{IsAsked, highest_asked, least_asked, more_blocks_asked, next_in_blocks_asked}
 use Rattle.fx_answer.proofs.Best.{smaller_asked}
@@ -103,7 +102,8 @@ module _ (seed number : ℕ) (earlier : List AskedView) (step : Meaning) where
 
   asked_booked : (status_of (outcome_of step).ending ≡ 2 → ⊥) → (k : ℕ) (p : Problem) → slice_get ps k ≡ Some p
       → has_book p ≡ true
-      → Contains (step_output seed number earlier step).events (WholeFile (book_name number (k + 1)) (book_text (book_for p)))
+      → Contains (step_output seed number earlier step).events
+      (WholeFile (book_name number (k + 1)) (book_text (book_for p)))
   asked_booked below k p at has = booked k p (ap (λ l. slice_get l k) (all_finished below) ∙ at) has
 
   has_unanswered : (p : Problem) → answer p ≡ None → has_book p ≡ true
@@ -167,13 +167,13 @@ module _ (seed number : ℕ) (earlier : List AskedView) (step : Meaning) where
     d = (outcome_of step).dimensions
 
     pub highest_book : HighestHasBook seed number earlier step
-    highest_book rows count goal plain without e = elim (highest_asked step valid rows count goal plain without e) [
+    highest_book rows count kind plain without e = elim (highest_asked step valid rows count kind plain without e) [
       | inl full ↦ inl full
       | inr next ↦ inr (unanswered_book d _ next (design_below rows count e))
     ]
 
     pub highest_book_in_blocks : HighestInBlocksHasBook seed number earlier step
-    highest_book_in_blocks rows count goal some e = elim (next_in_blocks_asked step valid rows count goal some e) [
+    highest_book_in_blocks rows count kind some e = elim (next_in_blocks_asked step valid rows count kind some e) [
       | inl top ↦ inl top
       | inr next ↦ inr (unanswered_book d _ next (design_below rows count e))
     ]
@@ -182,16 +182,16 @@ module _ (seed number : ℕ) (earlier : List AskedView) (step : Meaning) where
     least_book rows count least e =
         let q = least_asked step valid rows count least e in
         let own : q.question.least ≡ true = q.least ∙ least in
-        has_book_of d (required step.goal) (Some rows) q (design_below rows count e) (Some (pattern_of d rows))
+        has_book_of d step.requirement (Some rows) q (design_below rows count e) (Some (pattern_of d rows))
         (with_pattern q.question rows own q.answer_is ∙ ap (λ d. Some (pattern_of d rows)) q.dimensions)
         (ap (λ b. b || not (is_some (answer q.question))) own)
 
     pub size_books : LeastSizeHasBooks seed number earlier step
     size_books rows count other e h less =
-        unanswered_book other (required step.goal) (smaller_asked step valid rows count other e h less)
+        unanswered_book other step.requirement (smaller_asked step valid rows count other e h less)
         (design_below rows count e)
 
     pub block_book : MostBlocksHasBook seed number earlier step
     block_book rows count most e =
-        unanswered_book (with_block d) (required step.goal) (more_blocks_asked step valid rows count most e)
+        unanswered_book (with_block d) step.requirement (more_blocks_asked step valid rows count most e)
         (design_below rows count e)

@@ -48,7 +48,7 @@ among_questions : (step : Meaning) (size : Size) → has_most step.settings.bloc
 among_questions step Minimum most fixed = absurd (cc fixed)
 among_questions step (Runs m) most fixed = (
   low_of (has_most step.settings.blocks) most,
-  high_of (has_most step.settings.blocks) (seeks_highest step.settings.least step.goal) m (length step.factors + 1) most,
+  high_of (has_most step.settings.blocks) (seeks_highest step.settings) m (length step.factors + 1) most,
 )
 
 pub shaped : (step : Meaning) → IsValidStep step → is_searched step.settings ≡ false → IsShape (shape_given step)

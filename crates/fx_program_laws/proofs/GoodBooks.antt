@@ -1,7 +1,7 @@
 -- The books of a step whose questions may be asked are read from their texts as they are, and are accepted.
 use Rattle.std.proofs.Common.{ℕ, ◌≡◌, ◌≤◌, ◌+◌, ◌-◌, true, false, List, [], ◌∷◌, ◌++◌, length, Option, Some, None, Ok}
 use Rattle.std.proofs.Common.{IsTrue, refl, sym, ap, ◌∙◌, subst, arith, inl, inr, append-nil, append_assoc, Bool, leb}
-use Rattle.std.specs.Prelude.{codes, find}
+use Rattle.std.specs.Prelude.{codes, find, if◌then◌else◌}
 use Rattle.std.specs.List.{AllByRecursion, range_with_len}
 use Rattle.std.proofs.lemmas.Bool.{cases_Bool, cond-true, cond-false, and_parts, leb-true, ltb-false}
 use Rattle.std.proofs.lemmas.List.{length-map}
@@ -9,7 +9,7 @@ use Rattle.std.proofs.lemmas.List.Elements.{All-from_recursion}
 use Rattle.std.proofs.lemmas.List.Sums.{sum_by_push}
 use Rattle.fx_base.proofs.Lists.{each-append, each-map}
 use Rattle.fx_base.proofs.Ranges.{each-range}
-use Rattle.fx_designs.specs.Problems.{Problem}
+use Rattle.fx_designs.specs.Problems.{Problem, Requirement, AtResolution, ForEffects}
 use Rattle.fx_designs.specs.Nodes.{mark_of, marks, nodes}
 use Rattle.fx_vectors.specs.Question.{CanBeAsked, is_resolution}
 use Rattle.fx_vectors.specs.Shape.{IsShape}
@@ -26,14 +26,14 @@ use Rattle.fx_checker.specs.Claims.{claim_of}
 use Rattle.fx_checker.specs.Verdicts.{verdict_of}
 use Rattle.fx_checker.specs.declared.verdict.Verdict.TheVariants.{Accepted}
 use Rattle.fx_checker.proofs.Good.{in_turn_none}
-use Rattle.fx_statements.specs.Goals.{Goal, AtLeast, Highest, ForEffects}
+use Rattle.fx_statements.specs.Valid.{CanBeRequired}
 use Rattle.fx_statements.specs.Questions.{Turn, asked, highest, lowest, nodes_of, passes, question_for, questions_of}
-use Rattle.fx_statements.specs.Questions.{requirement_for, turns}
+use Rattle.fx_statements.specs.Questions.{requirement_for, seeks_highest, turns}
 use Rattle.fx_statements.specs.Steps.{Meaning}
 use Rattle.fx_statements.proofs.Concluded.{each_asked}
 use Rattle.fx_book.specs.QuestionBooks.{book_for, demands_for, has_book, shape_of}
 use Rattle.fx_answer.specs.Books.{book_at, books_from, books_of, finished, finished_before}
-use Rattle.fx_answer.specs.ValidSteps.{CanBeSought, IsValidStep}
+use Rattle.fx_answer.specs.ValidSteps.{IsValidStep}
 use Rattle.fx_answer.proofs.Valid.{least_valid, requirement_valid, shape_valid, some_numbers}
 use Rattle.fx_program_laws.specs.BookClaims.{HasAcceptedBooks, IsAcceptedBook}
 use Rattle.fx_program.specs.Commands.{AreGiven}
@@ -146,16 +146,21 @@ module _ (step : Meaning) (some : lowest step step.settings.size ≤ highest ste
       (finished-in budget [] ps (find (passes budget) (turns [] ps)) refl tt (omega arith) all_asked)))
 
 -- the questions of a valid step may be asked
-few_of : (q s : ℕ) (least : Bool) (goal : Goal) (n : ℕ) → CanBeSought q s goal
-    → AreFew (demands_for (requirement_for least goal n))
-few_of q s least (AtLeast r) n sought = tt
-few_of q s true Highest n sought = tt
-few_of q s false Highest n sought = tt
-few_of q s least (ForEffects estimate others) n sought =
-    (omega (arith, sought.1, length-map estimate by_number), omega (arith, sought.2, length-map others by_number))
+few_of : (q s : ℕ) (requirement : Requirement) → CanBeRequired q s requirement → AreFew (demands_for requirement)
+few_of q s (AtResolution r) askable = tt
+few_of q s (ForEffects estimate others) askable =
+    (omega (arith, askable.1, length-map estimate by_number), omega (arith, askable.2, length-map others by_number))
   where
     by_number : ℕ → Effect
     by_number n = record { 0 = n }
+
+few_asked : (step : Meaning) → IsValidStep step → (n : ℕ) → AreFew (demands_for (requirement_for step n))
+few_asked step valid n =
+    elim (seeks_highest step.settings) as
+    (λ seeks. AreFew (demands_for (if seeks then AtResolution n else step.requirement))) [
+      | true ↦ tt
+      | false ↦ few_of step.settings.q (length step.factors) step.requirement valid.effects
+    ]
 
 may_be_asked : (step : Meaning) (valid : IsValidStep step) (n : ℕ) → lowest step step.settings.size ≤ n
     → n ≤ highest step step.settings.size → MayBeAsked (question_for step n)
@@ -163,7 +168,7 @@ may_be_asked step valid n low high = record {
   shaped = (shape_valid step valid n low high).shaped;
   asked = requirement_valid step valid n low high;
   least = least_valid step valid n low high;
-  few = few_of step.settings.q (length step.factors) step.settings.least step.goal n valid.effects;
+  few = few_asked step valid n;
 }
 
 few_nodes : (x : StepSettings) → are_valid x ≡ true → x.budget ≤ 5000000

@@ -8,6 +8,7 @@ use Rattle.fx_designs.specs.Demands.{must_balance, is_allowed, is_estimated, is_
 use Rattle.fx_designs.specs.Galois.{prime_of, degree_of, reduction_of, add, mul, neg, inv}
 use Rattle.fx_designs.specs.Jobs.{best_before, carried, first_least}
 use Rattle.fx_designs.specs.Nodes.{nodes}
+use Rattle.fx_designs.specs.Problems.{AtResolution}
 use Rattle.fx_designs.specs.Runs.{runs_of, is_constant, is_balanced, are_blocks_even, is_balanced_in_blocks}
 use Rattle.fx_designs.specs.Runs.{is_constant_in_blocks}
 use Rattle.fx_designs.specs.Spans.{in_span}
@@ -18,7 +19,6 @@ use Rattle.fx_settings.specs.declared.settings.Size.TheVariants.{Runs}
 use Rattle.fx_settings.specs.declared.settings.Blocks.TheVariants.{Without}
 use Rattle.fx_settings.specs.declared.settings.Criterion.TheVariants.{Resolution}
 use Rattle.fx_statements.specs.declared.fold.Fold.TheVariants as fold
-use Rattle.fx_statements.specs.Goals.{AtLeast}
 use Rattle.fx_statements.specs.Programs.{program_of}
 use Rattle.fx_statements.specs.Questions.{conclusion_of}
 use Rattle.fx_statements.specs.Steps.{Meaning}
@@ -38,7 +38,7 @@ three_factors = record {
     least = false;
     blocks = Without;
   };
-  goal = AtLeast 3;
+  requirement = AtResolution 3;
   examine = record { aliasing = false; blocked = false; design = false; aberration = false };
   fold = fold.Without;
   outputs = [];
@@ -53,7 +53,8 @@ behind_its_rules :
     three_factors four_runs
 unfolding digits prime_of degree_of reduction_of add mul neg inv runs_of is_constant is_balanced in_span must_balance
     is_met is_allowed is_canonical lists designs answer nodes lexed refused program_of program_in is_constant_in_blocks
-    first_least best_before carried conclusion_of are_blocks_even is_balanced_in_blocks is_estimated parts_of step_starts
+    first_least best_before carried conclusion_of are_blocks_even is_balanced_in_blocks is_estimated parts_of
+    step_starts
     three_factors four_runs
 behind_its_rules = record {
   part = record { at = 0; end = 16; step = 16 };

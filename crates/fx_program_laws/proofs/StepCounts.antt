@@ -103,7 +103,7 @@ step_read earlier statements (Some given) step is here differ e =
     record {
       factors = factors.0;
       settings = asked.0.0;
-      goal = asked.0.1;
+      requirement = asked.0.1;
       examine = examine_of statements;
       fold = fold.0;
       outputs = outputs.0;
@@ -178,7 +178,8 @@ in_steps [] h = tt
 in_steps (s ∷ rest) h = by_test (begins word.Proc s) (in_steps rest h.1)
   where
     by_test : (b : Bool) → AllByRecursion (AllByRecursion IsAccepted) (steps_of rest)
-        → AllByRecursion (AllByRecursion IsAccepted) (if b then (s ∷ rest_of_step rest) ∷ steps_of rest else steps_of rest)
+        → AllByRecursion (AllByRecursion IsAccepted)
+        (if b then (s ∷ rest_of_step rest) ∷ steps_of rest else steps_of rest)
     by_test true later =
         ((h.0, each-take IsAccepted (prefix_len (λ s. not (ends_step s)) rest) rest h.1), later)
     by_test false later = later

@@ -18,12 +18,12 @@ use Rattle.fx_catalogue.specs.declared.line.Line.TheVariants.{Least, Nothing, Bu
 use Rattle.fx_book.specs.Heads.{book_of}
 use Rattle.fx_book.specs.Writing.{book_text}
 use Rattle.fx_checker.specs.declared.verdict.Verdict.TheVariants.{Accepted}
-use Rattle.fx_statements.specs.Goals.{Highest}
+use Rattle.fx_settings.specs.declared.settings.Criterion.TheVariants.{Highest}
 use Rattle.fx_statements.specs.Questions.{asked, outcome_of, questions_of}
 use Rattle.fx_statements.specs.Steps.{Meaning}
 use Rattle.fx_book.specs.QuestionBooks.{book_for, has_book}
 use Rattle.fx_answer.specs.Books.{books_of, finished}
-use Rattle.fx_answer.specs.StepClaims.{Allows, required}
+use Rattle.fx_answer.specs.StepClaims.{Allows}
 use Rattle.fx_program.specs.Files.{book_name}
 use Rattle.fx_program.specs.Commands.{AreGiven}
 use Rattle.fx_program.specs.Output.{message, step_output}
@@ -77,7 +77,7 @@ pub record HasBook (seed number : ℕ) (earlier : List AskedView) (step : Meanin
 -- words
 abbrev pub HighestHasBook : ℕ → ℕ → List AskedView → Meaning → Type 0
 HighestHasBook seed number earlier step = (rows : List ℕ) (count : ℕ)
-    → step.goal ≡ Highest
+    → step.settings.criterion ≡ Highest
     → step.settings.least ≡ false
     → has_blocks step.settings.blocks ≡ false
     → (outcome_of step).ending ≡ Design rows count
@@ -89,7 +89,7 @@ HighestHasBook seed number earlier step = (rows : List ℕ) (count : ℕ)
 -- is asked for
 abbrev pub HighestInBlocksHasBook : ℕ → ℕ → List AskedView → Meaning → Type 0
 HighestInBlocksHasBook seed number earlier step = (rows : List ℕ) (count : ℕ)
-    → step.goal ≡ Highest
+    → step.settings.criterion ≡ Highest
     → has_blocks step.settings.blocks ≡ true
     → (outcome_of step).ending ≡ Design rows count
     → ((outcome_of step).reached ≡ top_resolution (outcome_of step).dimensions)
@@ -100,7 +100,7 @@ abbrev pub LeastPatternHasBook : ℕ → ℕ → List AskedView → Meaning → 
 LeastPatternHasBook seed number earlier step = (rows : List ℕ) (count : ℕ)
     → step.settings.least ≡ true
     → (outcome_of step).ending ≡ Design rows count
-    → HasBook seed number earlier step (outcome_of step).dimensions (required step.goal)
+    → HasBook seed number earlier step (outcome_of step).dimensions step.requirement
     (Some (pattern_of (outcome_of step).dimensions rows))
 
 -- for each smaller size that the step allows, one that there is no design: with the least size, that is
@@ -109,11 +109,11 @@ LeastSizeHasBooks seed number earlier step = (rows : List ℕ) (count : ℕ) (d 
     → (outcome_of step).ending ≡ Design rows count
     → Allows step d
     → d.m < (outcome_of step).dimensions.m
-    → HasBook seed number earlier step d (required step.goal) None
+    → HasBook seed number earlier step d step.requirement None
 
 -- where the most blocks are asked, one that there is no design with one block factor more
 abbrev pub MostBlocksHasBook : ℕ → ℕ → List AskedView → Meaning → Type 0
 MostBlocksHasBook seed number earlier step = (rows : List ℕ) (count : ℕ)
     → step.settings.blocks ≡ Most
     → (outcome_of step).ending ≡ Design rows count
-    → HasBook seed number earlier step (with_block (outcome_of step).dimensions) (required step.goal) None
+    → HasBook seed number earlier step (with_block (outcome_of step).dimensions) step.requirement None

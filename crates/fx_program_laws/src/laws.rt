@@ -56,7 +56,6 @@ ghost use Rattle.fx_answer.specs.StepClaims.{
   MeetsWhatItReached,
   IsLastWithDesign,
   OfOutcome,
-  required,
 };
 ghost use Rattle.fx_answer.specs.ValidSteps.{IsValidStep};
 ghost use Rattle.fx_program.specs.Claims.{EachStep, HasMatrixAsAsked, IsGreatest, IsProved};
@@ -112,10 +111,10 @@ pub fn budget_ends_where_nodes_pass_it()
 pub fn no_design_means_none_at_all()
     ensures claimed { (seed number : ℕ) (earlier : List AskedView) (step : Meaning) → IsValidStep step
         → (step_output seed number earlier step).status ≡ 1
-        → (d : Dimensions) → Allows step d → NoneMeets d (required step.goal) }
+        → (d : Dimensions) → Allows step d → NoneMeets d step.requirement }
     ensures certain { (seed number : ℕ) (earlier : List AskedView) (step : Meaning) → IsValidStep step
         → nodes_of (asked (questions_of step)) ≤ step.settings.budget
-        → ((d : Dimensions) → Allows step d → NoneMeets d (required step.goal))
+        → ((d : Dimensions) → Allows step d → NoneMeets d step.requirement)
         → (step_output seed number earlier step).status ≡ 1 }
 {}
 

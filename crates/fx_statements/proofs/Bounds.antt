@@ -12,7 +12,6 @@ use Rattle.fx_settings.specs.declared.settings.StepSettings.{StepSettings}
 use Rattle.fx_settings.specs.declared.settings.Size.{Size}
 use Rattle.fx_settings.specs.declared.settings.Size.TheVariants.{Runs, Minimum}
 use Rattle.fx_settings.specs.declared.settings.Blocks.{Blocks}
-use Rattle.fx_settings.specs.declared.settings.Criterion.{Criterion}
 use Rattle.fx_settings.specs.declared.settings.Blocks.TheVariants.{Factors}
 use Rattle.fx_settings.specs.Blocks.{block_factors_of, blocks_of}
 use Rattle.fx_settings.specs.Settings.{block_rules, divided, is_level, step_settings_of, levels_of, rules, undivided}
@@ -24,9 +23,7 @@ use Rattle.fx_text.specs.Written.{Written}
 use Rattle.fx_text.specs.Statements.{statement_of}
 use Rattle.fx_settings.proofs.Rules.{accepted}
 use Rattle.fx_language.specs.declared.symbol.Symbol.TheVariants as word
-use Rattle.fx_statements.specs.declared.wanted.Wanted.{Wanted}
-use Rattle.fx_statements.specs.Goals.{criterion_wanted}
-use Rattle.fx_statements.specs.Valid.{is_count, settings_in, most_factors_of}
+use Rattle.fx_statements.specs.Valid.{is_count, most_factors_of}
 use Rattle.fx_vectors.specs.declared.shape.TheConstants.{MOST_FACTORS, MOST_FACTORS_IN_BLOCKS}
 use Rattle.fx_vectors.specs.declared.shape.TheConstants.{MOST_FACTORS_OF_MANY_LEVELS}
 
@@ -136,10 +133,3 @@ pub kept : (first : StepSettings) (said : StepSaid) (x : StepSettings) → step_
 kept first said x e =
     subst (λ (y : StepSettings). (y.criterion ≡ first.criterion) × (y.q ≡ first.q))
     (accepted (block_rules first.q first.size said) (divided first said) x e).1 (refl, refl)
-
--- the settings that a step keeps
-pub same_settings : (x : StepSettings) (wanted : Wanted) → criterion_wanted wanted ≡ x.criterion
-    → settings_in x.q x.budget x.size wanted x.least x.blocks ≡ x
-same_settings x wanted kind =
-    ap (λ (k : Criterion). record
-    { q = x.q; budget = x.budget; size = x.size; criterion = k; least = x.least; blocks = x.blocks }) kind

@@ -4,6 +4,7 @@ use Rattle.std.proofs.Common.{refl, sym, ap, ap₂, ◌∙◌}
 use Rattle.std.specs.Prelude.{nat_lt, min, if◌then◌else◌, ◌&&◌}
 use Rattle.std.proofs.lemmas.Bool.{ltb-false}
 use Rattle.fx_designs.specs.Components.{listed_count}
+use Rattle.fx_designs.specs.Problems.{Requirement}
 use Rattle.fx_lexer.specs.declared.place.Place.{Place}
 use Rattle.fx_language.specs.declared.symbol.Symbol.TheVariants.{Aliasing, Blocked, Examine}
 use Rattle.fx_language.specs.Symbols.{is}
@@ -13,7 +14,6 @@ use Rattle.fx_text.specs.Refusals.{place_at, refused_at}
 use Rattle.fx_text.specs.Written.{Written, begins}
 use Rattle.fx_statements.specs.Components.{check_components, components_asked, components_place, first_components}
 use Rattle.fx_statements.specs.Components.{listed_factors, place_or}
-use Rattle.fx_statements.specs.Goals.{Goal}
 use Rattle.fx_statements.specs.Steps.{asks, examine_of}
 use Rattle.fx_statements.specs.Valid.{HasFewComponents}
 
@@ -59,20 +59,22 @@ none_listed (s ∷ statements) e =
     let later = none_listed statements parts.1 in
     (ap₂ (λ x y. x || y) here.0 later.0, ap₂ (λ x y. x || y) here.1 later.1)
 
-pub few_components : (q s : ℕ) (goal : Goal) (statements : List (List Written))
-    → check_components q s goal (components_place statements) ≡ Ok tt
-    → HasFewComponents q s goal (examine_of statements)
-few_components q s goal statements e asked = by_place (components_place statements) refl e
+pub few_components : (q s : ℕ) (requirement : Requirement) (statements : List (List Written))
+    → check_components q s requirement (components_place statements) ≡ Ok tt
+    → HasFewComponents q s requirement (examine_of statements)
+few_components q s requirement statements e asked = by_place (components_place statements) refl e
   where
-    by_place : (place : Option Place) → components_place statements ≡ place → check_components q s goal place ≡ Ok tt
-        → listed_count q s (min s (listed_factors goal)) ≤ 100000
+    by_place : (place : Option Place) → components_place statements ≡ place
+        → check_components q s requirement place ≡ Ok tt
+        → listed_count q s (min s (listed_factors requirement)) ≤ 100000
     by_place None none e =
         let nothing = none_listed statements none in
         absurd (let f : false ≡ true = sym (ap₂ (λ x y. x || y) nothing.0 nothing.1) ∙ asked in cc)
-    by_place (Some place) found e = by_count (nat_lt 100000 (listed_count q s (min s (listed_factors goal)))) refl e
+    by_place (Some place) found e =
+        by_count (nat_lt 100000 (listed_count q s (min s (listed_factors requirement)))) refl e
       where
-        by_count : (b : Bool) → nat_lt 100000 (listed_count q s (min s (listed_factors goal))) ≡ b
+        by_count : (b : Bool) → nat_lt 100000 (listed_count q s (min s (listed_factors requirement))) ≡ b
             → ◌≡◌ {A = Result (Unit {0}) Refusal} (if b then Err (refused_at 23 place) else Ok tt) (Ok tt)
-            → listed_count q s (min s (listed_factors goal)) ≤ 100000
+            → listed_count q s (min s (listed_factors requirement)) ≤ 100000
         by_count true many e = absurd (cc e)
-        by_count false few e = ltb-false 100000 (listed_count q s (min s (listed_factors goal))) few
+        by_count false few e = ltb-false 100000 (listed_count q s (min s (listed_factors requirement))) few

@@ -7,6 +7,7 @@ use Rattle.fx_designs.specs.Components.{listed_count}
 use Rattle.fx_lexer.specs.declared.place.Place.{Place}
 use Rattle.fx_lexer.specs.declared.token.Token.{Token}
 use Rattle.fx_lexer.specs.Places.{IsPlaceIn}
+use Rattle.fx_designs.specs.Problems.{Requirement}
 use Rattle.fx_language.specs.declared.symbol.Symbol.TheVariants as symbol
 use Rattle.fx_language.specs.Keywords.{symbols_of}
 use Rattle.fx_language.specs.Refusals.{is_rule}
@@ -33,7 +34,7 @@ use Rattle.fx_statements.specs.Folds.{folded_at, names_folded, item_folded, item
 use Rattle.fx_outputs.specs.declared.earlier.EarlierPlan.{EarlierPlan}
 use Rattle.fx_outputs.specs.Outputs.{outputs_of}
 use Rattle.fx_statements.specs.Contexts.{context}
-use Rattle.fx_statements.specs.Goals.{Goal, effects_goal, effects_wanted, goal_by}
+use Rattle.fx_statements.specs.Requirements.{effects_by, effects_required, requirement_by}
 use Rattle.fx_statements.specs.Components.{listed_factors, is_for_components, first_components, components_asked}
 use Rattle.fx_statements.specs.Components.{place_or, components_place, check_components}
 use Rattle.fx_statements.specs.Steps.{Meaning, factor_limit, some_factors, factors_by, head_of, asked_by, step_by}
@@ -48,19 +49,20 @@ use Rattle.fx_effects.proofs.Placed as effects
 use Rattle.fx_outputs.proofs.Placed as outputs
 
 module _ (P : ℕ → ℕ → Type 0) (front : P 1 1) where
-  wanted : (q : ℕ) (names : List (List ℕ)) (s : List Written) → ArePlaced P s → Placed P (effects_goal q names s)
-  wanted q names s h = placed.chain P (lists_of q names s) _ (effects.lists P q names s front h) (λ lists. tt)
+  effects_placed : (q : ℕ) (names : List (List ℕ)) (s : List Written) → ArePlaced P s → Placed P (effects_by q names s)
+  effects_placed q names s h = placed.chain P (lists_of q names s) _ (effects.lists P q names s front h) (λ lists. tt)
 
-  goal : (q : ℕ) (names : List (List ℕ)) (statements : List (List Written)) (c : Criterion) → AreAllPlaced P statements
-      → Placed P (goal_by q names statements c)
-  goal q names statements (criterion.Resolution r) h = tt
-  goal q names statements criterion.Highest h = tt
-  goal q names statements criterion.Effects h =
+  requirement : (q : ℕ) (names : List (List ℕ)) (statements : List (List Written)) (c : Criterion)
+      → AreAllPlaced P statements
+      → Placed P (requirement_by q names statements c)
+  requirement q names statements (criterion.Resolution r) h = tt
+  requirement q names statements criterion.Highest h = tt
+  requirement q names statements criterion.Effects h =
       of_model (statement_of symbol.Model statements) (placed.statement P symbol.Model statements h)
     where
-      of_model : (s : Option (List Written)) → IfSome s (ArePlaced P) → Placed P (effects_wanted q names s)
-      of_model None h = wanted q names [] tt
-      of_model (Some s) h = wanted q names s h
+      of_model : (s : Option (List Written)) → IfSome s (ArePlaced P) → Placed P (effects_required q names s)
+      of_model None h = effects_placed q names [] tt
+      of_model (Some s) h = effects_placed q names s h
 
   first_place : (s : List Written) → ArePlaced P s → IfSome (first_components s) (IsPlace P)
   first_place [] h = tt
@@ -88,7 +90,7 @@ module _ (P : ℕ → ℕ → Type 0) (front : P 1 1) where
   listing_place (s ∷ rest) h =
       either_place (components_asked s) (components_place rest) (asked_place s h.0) (listing_place rest h.1)
 
-  few_components : (q s : ℕ) (g : Goal) (place : Option Place) → IfSome place (IsPlace P)
+  few_components : (q s : ℕ) (g : Requirement) (place : Option Place) → IfSome place (IsPlace P)
       → Placed P (check_components q s g place)
   few_components q s g None h = tt
   few_components q s g (Some place) h =
@@ -98,8 +100,8 @@ module _ (P : ℕ → ℕ → Type 0) (front : P 1 1) where
       → AreAllPlaced P statements → Placed P (asked_by names said statements)
   asked names said statements k h =
       placed.chain P (unblocked_of (length names) said) _ (settings.unblocked P said k (length names)) (λ unblocked.
-      placed.chain P (goal_by unblocked.q names statements unblocked.criterion) _
-      (goal unblocked.q names statements unblocked.criterion h) (λ g.
+      placed.chain P (requirement_by unblocked.q names statements unblocked.criterion) _
+      (requirement unblocked.q names statements unblocked.criterion h) (λ g.
       placed.chain P (step_settings_of unblocked said) _ (settings.settings P said k unblocked) (λ x.
       placed.chain P (check_components unblocked.q (length names) g (components_place statements)) _
       (few_components unblocked.q (length names) g (components_place statements) (listing_place statements h))

@@ -5,6 +5,7 @@ use Rattle.std.specs.Prelude.{if◌then◌else◌}
 use Rattle.std.specs.List.{prefix_len}
 use Rattle.std.proofs.Math.Seq.{drop-cons}
 use Rattle.std.proofs.Math.Numerals.{add-one}
+use Rattle.fx_designs.specs.Problems.{Requirement}
 use Rattle.fx_language.specs.declared.symbol.Symbol.TheVariants.{Proc}
 use Rattle.fx_text.specs.Written.{Written, begins}
 use Rattle.fx_text.specs.Statements.{ends_step, rest_of_step, steps_of}
@@ -17,16 +18,11 @@ use Rattle.fx_outputs.specs.declared.output.OutputSpec.{OutputSpec}
 use Rattle.fx_settings.specs.declared.settings.StepSettings.{StepSettings}
 use Rattle.fx_settings.specs.Said.{step_said}
 use Rattle.fx_text.specs.Phrases.{start_of}
-use Rattle.fx_statements.specs.declared.examine.Examine.{Examine}
 use Rattle.fx_statements.specs.declared.fold.Fold.{Fold}
-use Rattle.fx_statements.specs.declared.wanted.Wanted.{Wanted}
 use Rattle.fx_statements.specs.Contexts.{context}
 use Rattle.fx_statements.specs.Folds.{fold_of}
-use Rattle.fx_statements.specs.Goals.{criterion_wanted, goal_of}
-use Rattle.fx_statements.specs.Valid.{settings_in}
 use Rattle.fx_statements.specs.Steps.{Meaning, asked_by, examine_of, factors_by, head_of, factor_limit, step_by}
 use Rattle.fx_statements.specs.Steps.{plans_after, step_of}
-use Rattle.fx_statements.proofs.Bounds.{same_settings}
 use Rattle.fx_text.proofs.Stops.{stopped}
 use Rattle.fx_statements.specs.Programs.{steps_behind}
 
@@ -69,39 +65,24 @@ module _ (statements : List (List Written)) (i len : ℕ) (d : List Written) (h 
       rw (step_here e) (stopped (step_of earlier (proc ∷ rest_of_step rest)) _ reason (rw (slice long) at h))
 
 -- one step, from its parts
-module _ (earlier : List EarlierPlan) (statements : List (List Written)) (named : List Written) (factors : List (List ℕ))
-    (settings : StepSettings) (wanted : Wanted) (fold : Fold) (outputs : List OutputSpec)
+module _ (earlier : List EarlierPlan) (statements : List (List Written)) (named : List Written)
+    (factors : List (List ℕ))
+    (settings : StepSettings) (requirement : Requirement) (fold : Fold) (outputs : List OutputSpec)
     (is_named : factors_by (start_of (head_of statements)) (factor_limit named statements) named ≡ Ok factors)
     (is_asked : asked_by factors (step_said (head_of statements) named statements) statements
-    ≡ Ok (settings, goal_of wanted))
+    ≡ Ok (settings, requirement))
     (is_fold : fold_of factors settings statements ≡ Ok fold)
     (are_outputs : outputs_of (context factors settings) earlier statements ≡ Ok outputs) where
-  whole : step_by earlier statements (Some named)
+  pub step_is : step_by earlier statements (Some named)
       ≡ Ok (record {
         factors = factors;
         settings = settings;
-        goal = goal_of wanted;
+        requirement = requirement;
         examine = examine_of statements;
         fold = fold;
         outputs = outputs;
       })
-  whole = rw (is_named, is_asked, is_fold, are_outputs) refl
-
-  pub step_is : (examine : Examine) → examine ≡ examine_of statements → criterion_wanted wanted ≡ settings.criterion
-      → step_by earlier statements (Some named)
-      ≡ Ok (record {
-        factors = factors;
-        settings = settings_in settings.q settings.budget settings.size wanted settings.least settings.blocks;
-        goal = goal_of wanted;
-        examine = examine;
-        fold = fold;
-        outputs = outputs;
-      })
-  step_is examine listed kind =
-      whole
-      ∙ ap₂ (λ (x : StepSettings) (e : Examine). Ok
-      (record { factors = factors; settings = x; goal = goal_of wanted; examine = e; fold = fold; outputs = outputs }))
-      (sym (same_settings settings wanted kind)) (sym listed)
+  step_is = rw (is_named, is_asked, is_fold, are_outputs) refl
 
 -- a step whose settings are refused
 pub settings_refused : (earlier : List EarlierPlan) (statements : List (List Written)) (named : List Written)
@@ -114,11 +95,12 @@ settings_refused earlier statements named factors is_named reason h =
     rw is_named (stopped (asked_by factors (step_said (head_of statements) named statements) statements) _ reason h)
 
 -- a step whose fold or whose outputs are refused
-module _ (earlier : List EarlierPlan) (statements : List (List Written)) (named : List Written) (factors : List (List ℕ))
-    (settings : StepSettings) (wanted : Wanted)
+module _ (earlier : List EarlierPlan) (statements : List (List Written)) (named : List Written)
+    (factors : List (List ℕ))
+    (settings : StepSettings) (requirement : Requirement)
     (is_named : factors_by (start_of (head_of statements)) (factor_limit named statements) named ≡ Ok factors)
     (is_asked : asked_by factors (step_said (head_of statements) named statements) statements
-    ≡ Ok (settings, goal_of wanted)) where
+    ≡ Ok (settings, requirement)) where
   pub fold_refused : (reason : ParseStop) → IsRefused (fold_of factors settings statements) reason
       → IsRefused (step_by earlier statements (Some named)) reason
   fold_refused (stop.Refused refusal) h = rw (is_named, is_asked, h) refl

@@ -2,6 +2,7 @@
 use Rattle.std.proofs.Common.{◌≡◌, ℕ, List, [], ◌∷◌, map, length, Result, Ok, Err, true, refl}
 use Rattle.std.specs.Prelude.{codes}
 use Rattle.std.specs.Fmt.{digits}
+use Rattle.fx_designs.specs.Problems.{Requirement, AtResolution, ForEffects}
 use Rattle.fx_lexer.specs.declared.token.Token.{Token}
 use Rattle.fx_lexer.specs.declared.token.LexFault.{LexFault}
 use Rattle.fx_lexer.specs.Lexing.{lexed}
@@ -11,7 +12,8 @@ use Rattle.fx_text.specs.Refusals.{◌>>=◌}
 use Rattle.fx_demands.specs.Bars.{bars_of}
 use Rattle.fx_vectors.specs.Effects.{factors_of}
 use Rattle.fx_statements.specs.declared.examine.Examine.{Examine}
-use Rattle.fx_statements.specs.Goals.{Goal, AtLeast, Highest, ForEffects}
+use Rattle.fx_settings.specs.declared.settings.Criterion.{Criterion}
+use Rattle.fx_settings.specs.declared.settings.Criterion.TheVariants.{Highest, Resolution}
 use Rattle.fx_statements.specs.Steps.{Meaning, examine_of}
 use Rattle.fx_statements.specs.Programs.{program_of}
 
@@ -28,9 +30,13 @@ factors : List ℕ → Result (List (List (List ℕ))) Refusal
 unfolding steps
 factors text = steps text >>= (λ (all : List Meaning). Ok (map (λ (x : Meaning). x.factors) all))
 
-goals : List ℕ → Result (List Goal) Refusal
+criteria : List ℕ → Result (List Criterion) Refusal
 unfolding steps
-goals text = steps text >>= (λ (all : List Meaning). Ok (map (λ (x : Meaning). x.goal) all))
+criteria text = steps text >>= (λ (all : List Meaning). Ok (map (λ (x : Meaning). x.settings.criterion) all))
+
+requirements : List ℕ → Result (List Requirement) Refusal
+unfolding steps
+requirements text = steps text >>= (λ (all : List Meaning). Ok (map (λ (x : Meaning). x.requirement) all))
 
 sections : List ℕ → Result (List Examine) Refusal
 unfolding steps
@@ -89,75 +95,82 @@ names_and_limits = (refl, refl, refl, refl, refl, refl, refl, refl, refl, refl, 
 -- effects that are joined by bars: all unions, those of at most so many factors, with products among the parts; fewer
 -- factors first, then by the places of the factors
 bars :
-    (goals (codes "proc factex;factors A B C D;size design=8;model e=(A|B|C);")
+    (requirements (codes "proc factex;factors A B C D;size design=8;model e=(A|B|C);")
     ≡ Ok (ForEffects (1 ∷ 2 ∷ 4 ∷ 3 ∷ 5 ∷ 6 ∷ 7 ∷ []) [] ∷ []))
-    × (goals (codes "proc factex;factors A B C D;size design=8;model e=(A|B|C@2);")
+    × (requirements (codes "proc factex;factors A B C D;size design=8;model e=(A|B|C@2);")
     ≡ Ok (ForEffects (1 ∷ 2 ∷ 4 ∷ 3 ∷ 5 ∷ 6 ∷ []) [] ∷ []))
-    × (goals (codes "proc factex;factors A B C D;size design=8;model e=(A|B|C@9);")
+    × (requirements (codes "proc factex;factors A B C D;size design=8;model e=(A|B|C@9);")
     ≡ Ok (ForEffects (1 ∷ 2 ∷ 4 ∷ 3 ∷ 5 ∷ 6 ∷ 7 ∷ []) [] ∷ []))
-    × (goals (codes "proc factex;factors A B C D;size design=8;model e=(A|B@1);")
+    × (requirements (codes "proc factex;factors A B C D;size design=8;model e=(A|B@1);")
     ≡ Ok (ForEffects (1 ∷ 2 ∷ []) [] ∷ []))
-    × (goals (codes "proc factex;factors A B C D;size design=8;model e=(A*B|C);")
+    × (requirements (codes "proc factex;factors A B C D;size design=8;model e=(A*B|C);")
     ≡ Ok (ForEffects (4 ∷ 3 ∷ 7 ∷ []) [] ∷ []))
-    × (goals (codes "proc factex;factors A B C D;size design=8;model e=(A*B|C@1);") ≡ Ok (ForEffects (4 ∷ []) [] ∷ []))
-    × (goals (codes "proc factex;factors A B C D;size design=8;model e=(A*B|B*C);")
+    × (requirements (codes "proc factex;factors A B C D;size design=8;model e=(A*B|C@1);")
+    ≡ Ok (ForEffects (4 ∷ []) [] ∷ []))
+    × (requirements (codes "proc factex;factors A B C D;size design=8;model e=(A*B|B*C);")
     ≡ Ok (ForEffects (3 ∷ 6 ∷ 7 ∷ []) [] ∷ []))
-    × (goals (codes "proc factex;factors A B C D;size design=8;model e=(A*D B*C);")
+    × (requirements (codes "proc factex;factors A B C D;size design=8;model e=(A*D B*C);")
     ≡ Ok (ForEffects (9 ∷ 6 ∷ []) [] ∷ []))
-unfolding goals
+unfolding requirements
 bars = (refl, refl, refl, refl, refl, refl, refl, refl)
 
 -- products, in which a factor counts once; a list is a set; ranges are main effects; names in any spelling
 products :
-    (goals (codes "proc factex;factors A B C D;size design=8;model e=(A*B*A);") ≡ Ok (ForEffects (3 ∷ []) [] ∷ []))
-    × (goals (codes "proc factex;factors A B C D;size design=8;model e=(B A A*B B*A);")
+    (requirements (codes "proc factex;factors A B C D;size design=8;model e=(A*B*A);")
+    ≡ Ok (ForEffects (3 ∷ []) [] ∷ []))
+    × (requirements (codes "proc factex;factors A B C D;size design=8;model e=(B A A*B B*A);")
     ≡ Ok (ForEffects (1 ∷ 2 ∷ 3 ∷ []) [] ∷ []))
-    × (goals (codes "proc factex;factors A B C D;size design=8;model e=(a D);") ≡ Ok (ForEffects (1 ∷ 8 ∷ []) [] ∷ []))
-    × (goals (codes "proc factex;factors X1-X3;size design=8;model e=(X1-X3);")
+    × (requirements (codes "proc factex;factors A B C D;size design=8;model e=(a D);")
+    ≡ Ok (ForEffects (1 ∷ 8 ∷ []) [] ∷ []))
+    × (requirements (codes "proc factex;factors X1-X3;size design=8;model e=(X1-X3);")
     ≡ Ok (ForEffects (1 ∷ 2 ∷ 4 ∷ []) [] ∷ []))
-    × (goals (codes "proc factex;factors X1-X3;size design=8;model e=(X2-X3 X1*X3);")
+    × (requirements (codes "proc factex;factors X1-X3;size design=8;model e=(X2-X3 X1*X3);")
     ≡ Ok (ForEffects (2 ∷ 4 ∷ 5 ∷ []) [] ∷ []))
-unfolding goals
+unfolding requirements
 products = (refl, refl, refl, refl, refl)
 
 -- those that are to be estimated are taken out of those that are not negligible
 two_lists :
-    (goals (codes "proc factex;factors A B C D;size design=8;model e=(A B)n=(B C A*C);")
+    (requirements (codes "proc factex;factors A B C D;size design=8;model e=(A B)n=(B C A*C);")
     ≡ Ok (ForEffects (1 ∷ 2 ∷ []) (4 ∷ 5 ∷ []) ∷ []))
-    × (goals (codes "proc factex;factors A B C D;size design=8;model e=(A)n=(A);") ≡ Ok (ForEffects (1 ∷ []) [] ∷ []))
-    × (goals (codes "proc factex;factors A B C D;size design=8;model e=(B)n=(A C);")
+    × (requirements (codes "proc factex;factors A B C D;size design=8;model e=(A)n=(A);")
+    ≡ Ok (ForEffects (1 ∷ []) [] ∷ []))
+    × (requirements (codes "proc factex;factors A B C D;size design=8;model e=(B)n=(A C);")
     ≡ Ok (ForEffects (2 ∷ []) (1 ∷ 4 ∷ []) ∷ []))
-unfolding goals
+unfolding requirements
 two_lists = (refl, refl, refl)
 
--- other goals
-other_goals :
-    (goals (codes "proc factex;factors A B;") ≡ Ok (Highest ∷ []))
-    × (goals (codes "proc factex;factors A B;model r=5;proc factex;factors A;model r=max;")
-    ≡ Ok (AtLeast 5 ∷ Highest ∷ []))
-unfolding goals
-other_goals = (refl, refl)
+-- a resolution, and the highest, which is at least 3
+other_criteria :
+    (criteria (codes "proc factex;factors A B;") ≡ Ok (Highest ∷ []))
+    × (requirements (codes "proc factex;factors A B;") ≡ Ok (AtResolution 3 ∷ []))
+    × (criteria (codes "proc factex;factors A B;model r=5;proc factex;factors A;model r=max;")
+    ≡ Ok (Resolution 5 ∷ Highest ∷ []))
+    × (requirements (codes "proc factex;factors A B;model r=5;proc factex;factors A;model r=max;")
+    ≡ Ok (AtResolution 5 ∷ AtResolution 3 ∷ []))
+unfolding criteria requirements
+other_criteria = (refl, refl, refl, refl)
 
 -- effects that are refused: an unknown factor, a range that is not regular, a limit that keeps no effect; from left to
 -- right, ESTIMATE first
 refused_effects :
-    (goals (codes "proc factex;factors A B;model e=(A B*Z);") ≡ refused_at 4 38)
-    × (goals (codes "proc factex;factors A X1-X2;model e=(X1-X3);") ≡ refused_at 4 38)
-    × (goals (codes "proc factex;factors X1-X3;model e=(X3-X1);") ≡ refused_at 30 36)
-    × (goals (codes "proc factex;factors A B;model e=(A*B@1);") ≡ refused_at 29 38)
-    × (goals (codes "proc factex;factors A B;model e=(A|B@0);") ≡ refused_at 29 38)
-    × (goals (codes "proc factex;factors A B;model e=(A|B@0)n=(Z);") ≡ refused_at 29 38)
-    × (goals (codes "proc factex;factors A B;model e=(A)n=(Z A*B@1);") ≡ refused_at 4 39)
-unfolding goals refused_at
+    (requirements (codes "proc factex;factors A B;model e=(A B*Z);") ≡ refused_at 4 38)
+    × (requirements (codes "proc factex;factors A X1-X2;model e=(X1-X3);") ≡ refused_at 4 38)
+    × (requirements (codes "proc factex;factors X1-X3;model e=(X3-X1);") ≡ refused_at 30 36)
+    × (requirements (codes "proc factex;factors A B;model e=(A*B@1);") ≡ refused_at 29 38)
+    × (requirements (codes "proc factex;factors A B;model e=(A|B@0);") ≡ refused_at 29 38)
+    × (requirements (codes "proc factex;factors A B;model e=(A|B@0)n=(Z);") ≡ refused_at 29 38)
+    × (requirements (codes "proc factex;factors A B;model e=(A)n=(Z A*B@1);") ≡ refused_at 4 39)
+unfolding requirements refused_at
 refused_effects = (refl, refl, refl, refl, refl, refl, refl)
 
 -- 2,000,000 pairs, and more: 1,000 vectors to be estimated, at five levels, and as many others, or 1,004
 pairs :
-    (goals (codes
+    (requirements (codes
     "proc factex;factors A B C D E F/nlev=5;size design=25;model e=(A B A*B A*C A*B*C A*B*D A*C*D A*B*C*D A*B*C*E A*B*D*E)n=(C D A*D A*E A*B*E A*C*E A*D*E A*C*D*E B*C*D*E A*B*C*F);") ≡ Ok (ForEffects (1 ∷ 2 ∷ 3 ∷ 5 ∷ 7 ∷ 11 ∷ 13 ∷ 15 ∷ 23 ∷ 27 ∷ []) (4 ∷ 8 ∷ 9 ∷ 17 ∷ 19 ∷ 21 ∷ 25 ∷ 39 ∷ 29 ∷ 30 ∷ []) ∷ []))
-    × (goals (codes
+    × (requirements (codes
     "proc factex;factors A B C D E F/nlev=5;size design=25;model e=(A B A*B A*C A*B*C A*B*D A*C*D A*B*C*D A*B*C*E A*B*D*E)n=(C D A*D A*E A*B*E A*C*E A*D*E A*C*D*E B*C*D*E A*B*C*F E);") ≡ refused_at 22 61)
-unfolding goals refused_at
+unfolding requirements refused_at
 pairs = (refl, refl)
 
 -- each section, in one statement or in several

@@ -3,6 +3,7 @@
 use Rattle.std.specs.Prelude.{ℕ, ◌||◌, nat_lt, min, max, Bool, List, [], ◌∷◌, Option, Some, None, Result, Ok, Err}
 use Rattle.std.specs.Prelude.{if◌then◌else◌}
 use Rattle.fx_designs.specs.Components.{listed_count}
+use Rattle.fx_designs.specs.Problems.{Requirement, AtResolution, ForEffects}
 use Rattle.fx_language.specs.declared.code.TheConstants.{TOO_MANY_EFFECTS}
 use Rattle.fx_text.specs.declared.refusal.Refusal.{Refusal}
 use Rattle.fx_lexer.specs.declared.place.Place.{Place}
@@ -12,12 +13,10 @@ use Rattle.fx_language.specs.declared.symbol.Symbol.TheVariants.{Aliasing, Block
 use Rattle.fx_language.specs.Symbols.{is}
 use Rattle.fx_vectors.specs.Effects.{most_factors}
 use Rattle.fx_statements.specs.declared.components.TheConstants.{MOST_COMPONENTS}
-use Rattle.fx_statements.specs.Goals.{Goal, AtLeast, Highest, ForEffects}
 
 -- Components of one and two factors are listed, and those of as many as an effect that is named has.
-abbrev pub listed_factors : Goal → ℕ
-listed_factors (AtLeast r) = 2
-listed_factors Highest = 2
+abbrev pub listed_factors : Requirement → ℕ
+listed_factors (AtResolution r) = 2
 listed_factors (ForEffects estimate nonnegligible) = max 2 (max (most_factors estimate) (most_factors nonnegligible))
 
 -- the word asks for a listing of components
@@ -44,8 +43,8 @@ components_place [] = None
 components_place (s ∷ statements) = place_or (components_asked s) (components_place statements)
 
 -- at most 100,000 components may be listed in a step of s factors, or E23 at the word that asks for them
-abbrev pub check_components : ℕ → ℕ → Goal → Option Place → Result (Unit {0}) Refusal
-check_components q s goal None = Ok tt
-check_components q s goal (Some place) =
-    if nat_lt MOST_COMPONENTS (listed_count q s (min s (listed_factors goal)))
+abbrev pub check_components : ℕ → ℕ → Requirement → Option Place → Result (Unit {0}) Refusal
+check_components q s requirement None = Ok tt
+check_components q s requirement (Some place) =
+    if nat_lt MOST_COMPONENTS (listed_count q s (min s (listed_factors requirement)))
     then Err (refused_at TOO_MANY_EFFECTS place) else Ok tt

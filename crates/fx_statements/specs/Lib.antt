@@ -1,4 +1,4 @@
-pub mod Goals
+pub mod Requirements
 pub mod Endings
 pub mod Outcomes
 pub mod Components

@@ -1,9 +1,9 @@
 -- The questions that a step asks, and the outcome that they lead to within the step's budget.
-use Rattle.std.specs.Prelude.{ℕ, ◌+◌, ◌-◌, nat_lt, not, max, Bool, true, false, if◌then◌else◌, List, [], ◌∷◌, ◌++◌, map}
+use Rattle.std.specs.Prelude.{ℕ, ◌+◌, ◌-◌, nat_lt, not, ◌&&◌, max, Bool, true, false, if◌then◌else◌, List, [], ◌∷◌}
+use Rattle.std.specs.Prelude.{◌++◌, map}
 use Rattle.std.specs.Prelude.{length, sum_by, Option, Some, None, is_some, find}
 use Rattle.std.specs.List.{range_with_len}
-use Rattle.fx_designs.specs.Problems.{Dimensions, Problem, Requirement, AtResolution}
-use Rattle.fx_designs.specs.Problems as problems
+use Rattle.fx_designs.specs.Problems.{Dimensions, Problem, Requirement, AtResolution, ForEffects}
 use Rattle.fx_designs.specs.Answers.{answer}
 use Rattle.fx_designs.specs.Nodes.{nodes}
 use Rattle.fx_designs.specs.Jobs.{carried}
@@ -12,12 +12,13 @@ use Rattle.fx_settings.specs.declared.settings.Size.{Size}
 use Rattle.fx_settings.specs.declared.settings.Size.TheVariants.{Runs, Minimum}
 use Rattle.fx_settings.specs.declared.settings.Blocks.{Blocks}
 use Rattle.fx_settings.specs.declared.settings.Blocks.TheVariants as blocks
+use Rattle.fx_settings.specs.declared.settings.StepSettings.{StepSettings}
+use Rattle.fx_settings.specs.Models.{is_highest}
 use Rattle.fx_settings.specs.Powers.{greatest}
 use Rattle.fx_settings.specs.Valid.{has_most}
 use Rattle.fx_vectors.specs.Shape.{dimensions_of}
 use Rattle.fx_statements.specs.declared.outcome.Outcome.{Outcome}
 use Rattle.fx_statements.specs.Outcomes.{ending_in}
-use Rattle.fx_statements.specs.Goals.{Goal, AtLeast, Highest, ForEffects}
 use Rattle.fx_statements.specs.Steps.{Meaning}
 
 -- when no further question is asked: after the first that has an answer, or after the first that has none
@@ -44,13 +45,14 @@ block_factors (blocks.Factors t) m n = t
 block_factors (blocks.PerBlock k) m n = m - k
 block_factors blocks.Most m n = n
 
--- what is required of one design: the resolution n where the highest is wanted, but for a least pattern, since of the
--- designs with one each has the highest resolution
-abbrev pub requirement_for : Bool → Goal → ℕ → Requirement
-requirement_for least (AtLeast r) n = AtResolution r
-requirement_for true Highest n = AtResolution 3
-requirement_for false Highest n = AtResolution n
-requirement_for least (ForEffects estimate besides) n = problems.ForEffects estimate besides
+-- whether the resolution is free: where the highest is asked for, but for a least pattern, since of the designs with
+-- one each has the highest resolution
+abbrev pub seeks_highest : StepSettings → Bool
+seeks_highest settings = is_highest settings.criterion && not settings.least
+
+-- what is required of one design: the resolution n where that is free
+abbrev pub requirement_for : Meaning → ℕ → Requirement
+requirement_for step n = if seeks_highest step.settings then AtResolution n else step.requirement
 
 -- the question of a step for the number n: of run factors, of block factors or of the resolution, whichever the step
 -- leaves free
@@ -60,15 +62,9 @@ question_for step n =
     record {
       dimensions =
           record { q = step.settings.q; m = m; s = length step.factors; t = block_factors step.settings.blocks m n };
-      requirement = requirement_for step.settings.least step.goal n;
+      requirement = requirement_for step n;
       least = step.settings.least;
     }
-
--- whether the resolution is free
-abbrev pub seeks_highest : Bool → Goal → Bool
-seeks_highest least (AtLeast r) = false
-seeks_highest least Highest = not least
-seeks_highest least (ForEffects estimate besides) = false
 
 -- the least m with which there is more than one run and, in blocks of q^k runs, more than one block
 abbrev pub least_exponent : Blocks → ℕ
@@ -89,7 +85,7 @@ highest step Minimum = greatest step.settings.q
 highest step (Runs m) =
     (if has_most step.settings.blocks
     then m
-    else (if seeks_highest step.settings.least step.goal then max 3 (length step.factors + 1) else 3))
+    else (if seeks_highest step.settings then max 3 (length step.factors + 1) else 3))
 
 -- with what the asking ends: for the least size with the first that has an answer, else with the first that has none
 abbrev pub until : Size → Until
@@ -173,7 +169,7 @@ pub record Conclusion : Type 0 where
 -- the resolution that a question asks for, or 0 where it asks for effects
 abbrev pub resolution_wanted : Requirement → ℕ
 resolution_wanted (AtResolution r) = r
-resolution_wanted (problems.ForEffects estimate besides) = 0
+resolution_wanted (ForEffects estimate besides) = 0
 
 -- that of the question that was answered
 abbrev pub reached_by : Option Found → ℕ

@@ -1,6 +1,7 @@
 -- What a step means.
 use Rattle.std.specs.Prelude.{ℕ, ◌&&◌, Bool, List, [], ◌∷◌, length, is_some, Option, Some, None, Result, Ok, Err}
 use Rattle.std.specs.List.{list_any}
+use Rattle.fx_designs.specs.Problems.{Requirement}
 use Rattle.fx_language.specs.declared.code.TheConstants.{NO_FACTORS}
 use Rattle.fx_language.specs.declared.symbol.Symbol.{Symbol}
 use Rattle.fx_language.specs.declared.symbol.Symbol.TheVariants as word
@@ -23,16 +24,17 @@ use Rattle.fx_statements.specs.declared.examine.Examine.{Examine}
 use Rattle.fx_statements.specs.declared.fold.Fold.{Fold}
 use Rattle.fx_statements.specs.declared.step.Step.{Step}
 use Rattle.fx_statements.specs.Folds.{fold_of}
-use Rattle.fx_statements.specs.Goals.{Goal, goal_by, goal_of}
+use Rattle.fx_statements.specs.Requirements.{requirement_by}
 use Rattle.fx_statements.specs.Components.{check_components, components_place}
-use Rattle.fx_statements.specs.Valid.{most_factors_of, settings_in}
+use Rattle.fx_statements.specs.Valid.{most_factors_of}
+use Rattle.fx_vectors.specs.Question.{requirement_of}
 use Rattle.fx_statements.specs.Contexts.{context}
 
 -- a step, without where its parts lie in memory
 pub record Meaning : Type 0 where
   pub factors : List (List ℕ)
   pub settings : StepSettings
-  pub goal : Goal
+  pub requirement : Requirement
   pub examine : Examine
   pub fold : Fold
   pub outputs : List OutputSpec
@@ -69,14 +71,14 @@ abbrev pub head_of : List (List Written) → List Written
 head_of [] = []
 head_of (s ∷ statements) = s
 
--- the settings of a step with these factors, and what it wants, by what its statements say
-abbrev pub asked_by : List (List ℕ) → StepSaid → List (List Written) → Result (StepSettings × Goal) Refusal
+-- the settings of a step with these factors, and what it requires, by what its statements say
+abbrev pub asked_by : List (List ℕ) → StepSaid → List (List Written) → Result (StepSettings × Requirement) Refusal
 asked_by factors said statements = do
   unblocked ← unblocked_of (length factors) said
-  goal ← goal_by unblocked.q factors statements unblocked.criterion
+  requirement ← requirement_by unblocked.q factors statements unblocked.criterion
   settings ← step_settings_of unblocked said
-  listed ← check_components unblocked.q (length factors) goal (components_place statements)
-  Ok (settings, goal)
+  listed ← check_components unblocked.q (length factors) requirement (components_place statements)
+  Ok (settings, requirement)
 
 -- The meaning of a step, after these plans, by its FACTORS statement where it has one.
 abbrev pub step_by : List EarlierPlan → List (List Written) → Option (List Written) → Result Meaning Refusal
@@ -89,7 +91,7 @@ step_by earlier statements (Some named) = do
   Ok (record {
     factors = factors;
     settings = asked.0;
-    goal = asked.1;
+    requirement = asked.1;
     examine = examine_of statements;
     fold = fold;
     outputs = outputs;
@@ -108,8 +110,8 @@ plans_after earlier meaning =
 abbrev pub meaning_of : Step → Meaning
 meaning_of step = record {
   factors = step.factors;
-  settings = settings_in step.q step.budget step.size step.wanted step.least step.blocks;
-  goal = goal_of step.wanted;
+  settings = step.settings;
+  requirement = requirement_of step.demands;
   examine = step.examine;
   fold = step.fold;
   outputs = step.outputs;

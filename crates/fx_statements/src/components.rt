@@ -2,14 +2,13 @@ ghost use Rattle.std.specs.Prelude.{◌≡◌, ◌≤◌, true, min, nat_lt};
 ghost use Rattle.fx_designs.specs.Components.{listed_count};
 ghost use Rattle.fx_settings.specs.Settings.{is_level};
 ghost use Rattle.fx_statements.specs.declared.components.TheConstants.{MOST_COMPONENTS};
-ghost use Rattle.fx_statements.specs.Goals.{goal_of};
 ghost use Rattle.fx_statements.specs.Components.{check_components, components_asked, components_place, first_components, is_for_components, listed_factors};
+ghost use Rattle.fx_vectors.specs.Question.{requirement_of};
 ghost use Rattle.fx_vectors.specs.declared.shape.TheConstants.{MOST_FACTORS};
 
-use crate::wanted::Wanted;
 use fx_language::{Symbol, code};
 use fx_text::{Lexeme, Phrase, Place, Refusal, Statement};
-use fx_vectors::most_factors;
+use fx_vectors::{Demands, most_factors};
 
 /// The most components of a listing.
 const MOST_COMPONENTS: u64 = 100_000;
@@ -23,18 +22,18 @@ const MOST_COMPONENTS: u64 = 100_000;
 pub(crate) fn check_components(
     q: u8,
     s: u8,
-    wanted: &Wanted,
+    demands: &Demands,
     statements: &[Statement<'_>],
 ) -> Result<(), Refusal>
     requires level { is_level q ≡ true }
     requires few { s ≤ MOST_FACTORS }
     ensures { result
-        ≡ check_components q s (goal_of wanted.now) (components_place statements.now) }
+        ≡ check_components q s (requirement_of demands.now) (components_place statements.now) }
 {
     match components_place(statements) {
         None => Ok(()),
         Some(place) => {
-            if are_too_many(q, s, s.min(listed_factors(wanted))) {
+            if are_too_many(q, s, s.min(listed_factors(demands))) {
                 Err(Refusal::at(place, code::TOO_MANY_EFFECTS))
             } else {
                 Ok(())
@@ -87,12 +86,12 @@ fn is_for_components(w: &Lexeme<'_>) -> bool
 
 /// The most factors of a listed component, in a step with as many factors: 2, or the number of factors
 /// of the largest effect that the step names.
-pub fn listed_factors(wanted: &Wanted) -> u8
-    ensures { result ≡ listed_factors (goal_of wanted.now) }
+pub fn listed_factors(demands: &Demands) -> u8
+    ensures { result ≡ listed_factors (requirement_of demands.now) }
 {
-    match wanted {
-        Wanted::Resolution { .. } | Wanted::Highest => 2,
-        Wanted::Effects {
+    match demands {
+        Demands::Resolution { .. } => 2,
+        Demands::Effects {
             estimate,
             nonnegligible,
         } => most_factors(estimate)

@@ -2,6 +2,7 @@
 #![tactic(auto)]
 
 mod components;
+mod demands;
 mod examine;
 mod fold;
 mod laws;
@@ -9,14 +10,14 @@ mod outcome;
 mod parsing;
 mod step;
 mod stepping;
-mod wanted;
 
 pub use components::listed_factors;
 pub use examine::Examine;
 pub use fold::Fold;
 pub use fx_outputs::{Derived, Deriveds, OutputSpec, Outputs, Recode, Recodes, Rep, Shuffle};
-pub use fx_settings::{Blocks, Size};
+pub use fx_settings::{Blocks, Criterion, Size, StepSettings};
 pub use fx_text::{Names, ParseStop, Refusal};
+pub use fx_vectors::Demands;
 pub use laws::{
     model_is_read_by_the_grammar, refusals_have_a_rule_and_a_place,
     sections_are_read_by_the_grammar,
@@ -24,4 +25,3 @@ pub use laws::{
 pub use outcome::{End, Outcome};
 pub use parsing::{Program, parse};
 pub use step::Step;
-pub use wanted::Wanted;

@@ -5,17 +5,18 @@ ghost use Rattle.fx_text.specs.Names.{IsName, is_same_name};
 ghost use Rattle.fx_settings.specs.Valid.{are_valid};
 ghost use Rattle.fx_outputs.specs.Outputs.{names_of};
 ghost use Rattle.fx_outputs.specs.Validity.{HasItsNames, IsWithinLimits};
-ghost use Rattle.fx_statements.specs.Valid.{CanBeWanted, HasFewComponents, HasFewEffects, is_count, settings_in};
-ghost use Rattle.fx_statements.specs.Goals.{goal_of};
+ghost use Rattle.fx_statements.specs.Valid.{CanBeRequired, CanBeRequired-prop, HasFewComponents, is_count};
+ghost use Rattle.fx_statements.specs.Requirements.{IsOfKind, IsOfKind-prop};
 ghost use Rattle.fx_statements.specs.Contexts.{context};
 ghost use Rattle.fx_statements.specs.Folds.{IsFold};
+ghost use Rattle.fx_vectors.specs.Question.{requirement_of};
 
 use crate::examine::Examine;
 use crate::fold::Fold;
-use crate::wanted::Wanted;
 use fx_outputs::Outputs;
-use fx_settings::{Blocks, Size};
+use fx_settings::StepSettings;
 use fx_text::Names;
+use fx_vectors::Demands;
 
 /// A step of a program. No two of its factors have the same name, its settings are valid, the
 /// effects that it names may be asked for (at least one to estimate, both lists in effect order,
@@ -26,38 +27,30 @@ pub struct Step {
     /// The names of its factors, at least one, and no more than a design with so many levels, in
     /// blocks or not, may have. They differ without regard to case.
     pub factors: Names,
-    /// The number of levels of each factor: 2, 3, 4, 5, 7, 8 or 9.
-    pub q: u8,
-    /// How many runs the design has.
-    pub size: Size,
-    /// What is wanted of the design.
-    pub wanted: Wanted,
-    /// Whether least aberration is wanted.
-    pub least: bool,
-    /// Into which blocks the runs are divided, if into any.
-    pub blocks: Blocks,
+    /// Its levels, runs, blocks and budget, and by what its designs are judged.
+    pub settings: StepSettings,
+    /// What a design must meet: with the highest resolution, at least resolution 3.
+    pub demands: Demands,
     /// The sections of the listing that are asked for.
     pub examine: Examine,
     /// Which factors are folded over, if any.
     pub fold: Fold,
     /// The files that the step writes, in order.
     pub outputs: Outputs,
-    /// The greatest number of nodes, from 1 to 5,000,000.
-    pub budget: u64,
-    ghost factor_count: { IsTrue (is_count q (length factors) blocks) },
+    ghost factor_count: { IsTrue (is_count settings.q (length factors) settings.blocks) },
     ghost distinct: { IsDistinct is_same_name factors } by { Prim.hlevel props },
-    ghost settings_valid: { IsTrue (are_valid (settings_in q budget size wanted least blocks)) },
+    ghost settings_valid: { IsTrue (are_valid settings) },
     ghost factor_names: { All IsName factors },
-    ghost effects_askable: { CanBeWanted q (length factors) wanted },
-    ghost few_effects: { HasFewEffects wanted },
-    ghost few_components: { HasFewComponents q (length factors) (goal_of wanted) examine },
-    ghost fold_fits: { IsFold q blocks (length factors) fold },
-    ghost outputs_within_limits: { All
-        (IsWithinLimits (context factors (settings_in q budget size wanted least blocks)))
-        outputs },
-    ghost output_names: { All
-        (HasItsNames (context factors (settings_in q budget size wanted least blocks)))
-        outputs },
+    ghost kind: { IsOfKind settings.criterion (requirement_of demands) } by { IsOfKind-prop _ _ },
+    ghost effects_askable: { CanBeRequired settings.q (length factors) (requirement_of demands) } by { CanBeRequired-prop _ _ _ },
+    ghost few_components: { HasFewComponents
+        settings.q
+        (length factors)
+        (requirement_of demands)
+        examine },
+    ghost fold_fits: { IsFold settings.q settings.blocks (length factors) fold },
+    ghost outputs_within_limits: { All (IsWithinLimits (context factors settings)) outputs },
+    ghost output_names: { All (HasItsNames (context factors settings)) outputs },
     ghost out_names_differ: { IsDistinct is_same_name (names_of outputs) } by { Prim.hlevel props },
 }
 
@@ -66,15 +59,11 @@ impl Drop for Step {
     fn drop(self) {
         let Step {
             factors: _,
-            q: _,
-            size: _,
-            wanted: _,
-            least: _,
-            blocks: _,
+            settings: _,
+            demands: _,
             examine: _,
             fold: _,
             outputs: _,
-            budget: _,
         } = self;
     }
 }

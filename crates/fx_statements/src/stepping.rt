@@ -11,16 +11,17 @@ ghost use Rattle.fx_text.specs.Names.{is_same_name};
 ghost use Rattle.fx_text.specs.Refusals.{IsRefused};
 ghost use Rattle.fx_outputs.specs.Earlier.{plan_names};
 ghost use Rattle.fx_statements.specs.Contexts.{block_count, context, most_runs};
-ghost use Rattle.fx_statements.specs.Goals.{criterion_wanted, goal_of};
-ghost use Rattle.fx_statements.specs.Valid.{CanBeWanted, HasFewComponents, HasFewEffects, most_factors_of};
+ghost use Rattle.fx_statements.specs.Requirements.{IsOfKind};
+ghost use Rattle.fx_statements.specs.Valid.{CanBeRequired, HasFewComponents, most_factors_of};
 ghost use Rattle.fx_statements.specs.Steps.{asked_by, examine_of, factors_by, head_of, meaning_of, plans_after, step_by, step_of};
+ghost use Rattle.fx_vectors.specs.Question.{requirement_of};
 ghost use Rattle.fx_vectors.specs.declared.shape.TheConstants.{MOST_FACTORS};
 
 use crate::components::check_components;
+use crate::demands::demands_by;
 use crate::examine::examine_of;
 use crate::fold::fold_of;
 use crate::step::Step;
-use crate::wanted::{Wanted, wanted_by};
 use fx_base::Bytes;
 use fx_language::{Symbol, code};
 use fx_outputs::{BlockCount, EarlierPlans, OutputContext, outputs};
@@ -29,7 +30,7 @@ use fx_settings::{
     step_settings_of, unblocked_of,
 };
 use fx_text::{Names, ParseStop, Phrase, Place, Refusal, Statement, find};
-use fx_vectors::{MOST_FACTORS, MOST_FACTORS_IN_BLOCKS, MOST_FACTORS_OF_MANY_LEVELS};
+use fx_vectors::{Demands, MOST_FACTORS, MOST_FACTORS_IN_BLOCKS, MOST_FACTORS_OF_MANY_LEVELS};
 use std::alloc::Global;
 
 /// The step of some statements, the first of which is its PROC statement. `earlier` are the
@@ -83,21 +84,17 @@ fn step_by(
         factor_limit(levels_of(said), statements),
         named,
     )?;
-    let (settings, wanted) = asked_by(alloc, factors.as_slice(), said, statements)?;
+    let (settings, demands) = asked_by(alloc, factors.as_slice(), said, statements)?;
     let fold = fold_of(alloc, factors.as_slice(), settings, statements)?;
     let context = context_of(factors.as_slice(), settings);
     let outputs = outputs(alloc, &context, earlier, statements)?;
     Ok(Step {
         factors,
-        q: settings.q,
-        size: settings.size,
-        wanted,
-        least: settings.least,
-        blocks: settings.blocks,
+        settings,
+        demands,
         examine: examine_of(statements),
         fold,
         outputs,
-        budget: settings.budget,
     })
 }
 
@@ -120,7 +117,7 @@ fn factors_by(
     Ok(factors)
 }
 
-/// The settings of a step with these factors, and what it wants, by what its statements say.
+/// The settings of a step with these factors, and what it demands, by what its statements say.
 ///
 /// # Errors
 ///
@@ -131,18 +128,18 @@ fn asked_by(
     factors: &[Bytes],
     said: StepSaid,
     statements: &[Statement<'_>],
-) -> Result<(StepSettings, Wanted), ParseStop>
+) -> Result<(StepSettings, Demands), ParseStop>
     requires some { 1 ≤ length factors.now }
     requires few { length factors.now ≤ MOST_FACTORS }
     ensures asked { IfOk result (λ asked.
-        asked_by factors.now said statements.now ≡ Ok (asked.0, goal_of asked.1)) }
+        asked_by factors.now said statements.now ≡ Ok (asked.0, requirement_of asked.1)) }
     ensures settings_valid { IfOk result (λ asked. are_valid asked.0 ≡ true) }
     ensures levels { IfOk result (λ asked. asked.0.q ≡ levels_of said) }
-    ensures kind { IfOk result (λ asked. criterion_wanted asked.1 ≡ asked.0.criterion) }
-    ensures askable { IfOk result (λ asked. CanBeWanted asked.0.q (length factors.now) asked.1) }
-    ensures few_effects { IfOk result (λ asked. HasFewEffects asked.1) }
+    ensures kind { IfOk result (λ asked. IsOfKind asked.0.criterion (requirement_of asked.1)) }
+    ensures askable { IfOk result (λ asked.
+        CanBeRequired asked.0.q (length factors.now) (requirement_of asked.1)) }
     ensures few_components { IfOk result (λ asked.
-        HasFewComponents asked.0.q (length factors.now) (goal_of asked.1)
+        HasFewComponents asked.0.q (length factors.now) (requirement_of asked.1)
         (examine_of statements.now)) }
     ensures unblocked { IfOk result (λ asked.
         said.blocks ≡ None → has_blocks asked.0.blocks ≡ false) }
@@ -150,10 +147,10 @@ fn asked_by(
 {
     let s = factors.len() as u8;
     let unblocked = unblocked_of(s, said)?;
-    let wanted = wanted_by(alloc, unblocked.q, factors, statements, unblocked.criterion)?;
+    let demands = demands_by(alloc, unblocked.q, factors, statements, unblocked.criterion)?;
     let settings = step_settings_of(unblocked, said)?;
-    check_components(unblocked.q, s, &wanted, statements)?;
-    Ok((settings, wanted))
+    check_components(unblocked.q, s, &demands, statements)?;
+    Ok((settings, demands))
 }
 
 /// The first of some statements.

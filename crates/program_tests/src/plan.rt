@@ -75,10 +75,10 @@ fn is_design(step: &Step, matrix: &Matrix) -> bool
     if matrix.len() != shape.rows() || !are_few(shape) {
         return false;
     }
-    if shape.q != step.q || usize::from(shape.s) != step.factors.len() {
+    if shape.q != step.settings.q || usize::from(shape.s) != step.factors.len() {
         return false;
     }
-    has_blocks(step.blocks, shape.t)
+    has_blocks(step.settings.blocks, shape.t)
 }
 
 /// Whether `t` is the number of block factors.

@@ -1,21 +1,11 @@
 //! What the steps of an accepted text are.
 use crate::rows_of;
 use crate::statements::{read, text_of};
-use fx_settings::Criterion;
-use fx_statements::{Blocks, Examine, Program, Rep, Shuffle, Size, Step, Wanted};
+use fx_statements::{Blocks, Criterion, Demands, Examine, Program, Rep, Shuffle, Size, Step};
 use fx_text::Names;
 use fx_vectors::Effects;
 use std::alloc::Global;
 use std::process::Abort;
-
-/// By what the designs of a step are judged.
-fn criterion(wanted: &Wanted) -> Criterion {
-    match wanted {
-        Wanted::Resolution { r } => Criterion::Resolution { r: *r },
-        Wanted::Highest => Criterion::Highest,
-        Wanted::Effects { .. } => Criterion::Effects,
-    }
-}
 
 /// Whether the only step of a program has these settings.
 fn has_settings(
@@ -26,10 +16,10 @@ fn has_settings(
     blocks: Blocks,
 ) -> bool {
     match program.as_slice() {
-        [step] => step.size == size
-            && criterion(&step.wanted) == wanted
-            && step.least == least
-            && step.blocks == blocks,
+        [step] => step.settings.size == size
+            && step.settings.criterion == wanted
+            && step.settings.least == least
+            && step.settings.blocks == blocks,
         _ => false,
     }
 }
@@ -225,12 +215,12 @@ fn effects_are_those_of_the_lists(rt: HostRuntime) {
 /// Whether the only step of a program asks for these effects.
 fn has_effects(program: &Program, estimate: &[u64], nonnegligible: &[u64]) -> bool {
     match program.as_slice() {
-        [step] => match &step.wanted {
-            Wanted::Effects {
+        [step] => match &step.demands {
+            Demands::Effects {
                 estimate: first,
                 nonnegligible: second,
             } => are_effects(first, estimate) && are_effects(second, nonnegligible),
-            Wanted::Resolution { .. } | Wanted::Highest => false,
+            Demands::Resolution { .. } => false,
         },
         _ => false,
     }
@@ -276,10 +266,10 @@ fn has_first_settings(step: &Step) -> bool {
         aberration: false,
     };
     are(&step.factors, "Pressure x9 x10 x11")
-        && step.q == 3
-        && step.budget == 20000
-        && step.size == Size::Runs { m: 2 }
-        && criterion(&step.wanted) == Criterion::Resolution { r: 3 }
+        && step.settings.q == 3
+        && step.settings.budget == 20000
+        && step.settings.size == Size::Runs { m: 2 }
+        && step.settings.criterion == Criterion::Resolution { r: 3 }
         && step.examine == listed
 }
 
@@ -308,10 +298,10 @@ fn is_second(step: &Step) -> bool {
         aberration: true,
     };
     are(&step.factors, "Size")
-        && step.q == 2
-        && step.budget == 1_000_000
-        && step.size == Size::Runs { m: 1 }
-        && criterion(&step.wanted) == Criterion::Resolution { r: 4 }
+        && step.settings.q == 2
+        && step.settings.budget == 1_000_000
+        && step.settings.size == Size::Runs { m: 1 }
+        && step.settings.criterion == Criterion::Resolution { r: 4 }
         && step.examine == listed
         && matches!(step.outputs.as_slice(), [plan] if plan.pointrep == Rep::Times(3))
 }

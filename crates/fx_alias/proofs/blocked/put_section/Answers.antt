@@ -4,7 +4,7 @@ use Rattle.std.specs.Result.{OnOk}
 use Rattle.std.specs.List.{flat_map}
 use Rattle.fx_vectors.specs.declared.shape.Shape.{Shape}
 use Rattle.fx_runs.specs.Runs.{design_of}
-use Rattle.fx_statements.specs.Goals.{goal_of}
+use Rattle.fx_vectors.specs.Question.{requirement_of}
 use Rattle.fx_alias.specs.Aliasing.{listed_components}
 use Rattle.fx_alias.specs.Blocked.{component_line, is_blocked}
 use Rattle.fx_components.specs.Lines.{or_none}
@@ -18,13 +18,13 @@ returns c =
     λ names components. or_none
     (flat_map (component_line names) (filter (is_blocked (design_of c.args.matrix.now)) components)) in
     let components : c.in_ok-components.components
-    ≡ listed_components c.args.matrix.now.shape.q c.args.matrix.now.shape.s (goal_of c.args.step.now.wanted) =
+    ≡ listed_components c.args.matrix.now.shape.q c.args.matrix.now.shape.s (requirement_of c.args.step.now.demands) =
     c.in_ok-components.ensures.components ∙ ap
-    (λ (z : Shape). listed_components z.q z.s (goal_of c.args.step.now.wanted))
+    (λ (z : Shape). listed_components z.q z.s (requirement_of c.args.step.now.demands))
     c.shape.ensures.shape in
     let all =
     ap₂ (λ (a b : List ℕ). a ++ b) c.in_ok-put.ensures.ok (ap₂ lines names components)
     ∙ append_assoc c.args.out.now (codes "blocked\n")
     (lines c.args.step.now.factors
-    (listed_components c.args.matrix.now.shape.q c.args.matrix.now.shape.s (goal_of c.args.step.now.wanted))) in
+    (listed_components c.args.matrix.now.shape.q c.args.matrix.now.shape.s (requirement_of c.args.step.now.demands))) in
     subst (λ (l : List ℕ). OnOk c.put_blocked.result (c.put_blocked.new.out ≡ l)) all c.put_blocked.ensures

@@ -9,11 +9,11 @@ put_fold-requires-clause-levels c =
 pub put_fold-requires-clause-no_blocks : goal.put_fold-requires-clause-no_blocks
 put_fold-requires-clause-no_blocks c =
     c.requires.unblocked
-    (unblocked c.args.step.now.blocks (c.args.step.now.fold_fits c.in-Factors.folded c.in-Factors.is).1)
+    (unblocked c.args.step.now.settings.blocks (c.args.step.now.fold_fits c.in-Factors.folded c.in-Factors.is).1)
 
 pub put_fold-requires-clause-complete : goal.put_fold-requires-clause-complete
 put_fold-requires-clause-complete c =
     let none =
     c.requires.unblocked
-    (unblocked c.args.step.now.blocks (c.args.step.now.fold_fits c.in-Factors.folded c.in-Factors.is).1) in
+    (unblocked c.args.step.now.settings.blocks (c.args.step.now.fold_fits c.in-Factors.folded c.in-Factors.is).1) in
     omega (arith, c.requires.complete, none)

@@ -139,7 +139,7 @@ pub ask_from-cut_short-requires-clause-whole : goal.ask_from-cut_short-requires-
 ask_from-cut_short-requires-clause-whole g t c =
     let h = rw c.in-Budget.is at c.in_ok-matrix.ensures.answer in
     rw c.or.ensures
-    (left-is-whole c.in_ok-question.question (c.args.step.now.budget - c.args.finished.nodes) c.in-Budget.best
+    (left-is-whole c.in_ok-question.question (c.args.step.now.settings.budget - c.args.finished.nodes) c.in-Budget.best
     c.args.finished.found h.1 h.2 c.requires.whole)
 
 pub ask_from-returns-in-Budget-clause-of_step : goal.ask_from-returns-in-Budget-clause-of_step
@@ -148,7 +148,8 @@ ask_from-returns-in-Budget-clause-of_step g t c =
     let of = c.in_ok-question.ensures.of_step in
     c.cut_short.ensures.of_step (meaning_of c.args.step.now) of
     (rw c.or.ensures
-    (left-of c.in_ok-question.question (c.args.step.now.budget - c.args.finished.nodes) (meaning_of c.args.step.now)
+    (left-of c.in_ok-question.question (c.args.step.now.settings.budget - c.args.finished.nodes)
+    (meaning_of c.args.step.now)
     c.in-Budget.best c.args.finished.found h.2 of c.requires.found))
 
 pub ask_from-returns-in-Budget-clause-concluded : goal.ask_from-returns-in-Budget-clause-concluded
@@ -157,7 +158,7 @@ ask_from-returns-in-Budget-clause-concluded g t c = λ earlier is stands before.
     let question = c.in_ok-question.question in
     let p = question_for step c.args.n in
     let same = c.in_ok-question.ensures.problem in
-    let budget = c.args.step.now.budget in
+    let budget = c.args.step.now.settings.budget in
     let nodes_before = c.args.finished.nodes in
     let found_before = c.args.finished.found in
     let h = rw c.in-Budget.is at c.in_ok-matrix.ensures.answer in
@@ -186,7 +187,7 @@ ask_from-returns-in-Budget-clause-books g t c = λ earlier is come before.
     let step = meaning_of c.args.step.now in
     let p = question_for step c.args.n in
     let same = c.in_ok-question.ensures.problem in
-    let budget = c.args.step.now.budget in
+    let budget = c.args.step.now.settings.budget in
     let h = rw c.in-Budget.is at c.in_ok-matrix.ensures.answer in
     let passed : budget - c.args.finished.nodes < length (nodes p) =
     subst (λ p. budget - c.args.finished.nodes < length (nodes p)) same h.0 in

@@ -1,7 +1,6 @@
 use Rattle.std.proofs.Common.{sym, ap, ◌∙◌, subst, IsTrue}
 use Rattle.fx_vectors.specs.Question.{CanBeAsked, is_resolution}
 use Rattle.fx_vectors.specs.Shape.{dimensions_of}
-use Rattle.fx_statements.specs.Goals.{goal_of}
 use Rattle.fx_statements.specs.Questions.{requirement_for}
 use Rattle.fx_statements.specs.Steps.{meaning_of}
 use Rattle.fx_answer.proofs.Valid.{kept_valid, least_valid, requirement_valid}
@@ -17,7 +16,7 @@ returns-clause-valid c =
       shaped = c.shape_for.ensures.of_step.shaped;
       asked =
           subst (λ r. CanBeAsked (dimensions_of c.shape_for.result) r) (sym wanted)
-          (subst (λ d. CanBeAsked d (requirement_for step.least (goal_of step.wanted) c.args.n))
+          (subst (λ d. CanBeAsked d (requirement_for (meaning_of step) c.args.n))
           (sym c.shape_for.ensures.dimensions)
           (requirement_valid (meaning_of step) (kept_valid step) c.args.n low high));
       least = λ h.

@@ -15,9 +15,9 @@ shape_with step q m s t m' s' t' em es et h =
 pub returns-clause-of_step : goal.returns-clause-of_step
 returns-clause-of_step c =
     let step = c.args.step.now in
-    let m = run_factors step.size c.args.n in
-    shape_with (meaning_of step) step.q c.run_factors-m.result c.len.result c.block_factors.result
-    m (length step.factors) (block_factors step.blocks m c.args.n)
+    let m = run_factors step.settings.size c.args.n in
+    shape_with (meaning_of step) step.settings.q c.run_factors-m.result c.len.result c.block_factors.result
+    m (length step.factors) (block_factors step.settings.blocks m c.args.n)
     c.run_factors-m.ensures c.len.ensures
-    (c.block_factors.ensures ∙ ap (λ x. block_factors step.blocks x c.args.n) c.run_factors-m.ensures)
+    (c.block_factors.ensures ∙ ap (λ x. block_factors step.settings.blocks x c.args.n) c.run_factors-m.ensures)
     (shape_valid (meaning_of step) (kept_valid step) c.args.n c.requires.low c.requires.high)

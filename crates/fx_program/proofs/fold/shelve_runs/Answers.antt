@@ -22,13 +22,13 @@ fold_runs-requires-clause-levels g c =
 pub fold_runs-requires-clause-no_blocks : goal.fold_runs-requires-clause-no_blocks
 fold_runs-requires-clause-no_blocks g c =
     c.requires.design.unblocked
-    (unblocked c.args.step.now.blocks (c.args.step.now.fold_fits c.args.folded.now c.requires.fold).1)
+    (unblocked c.args.step.now.settings.blocks (c.args.step.now.fold_fits c.args.folded.now c.requires.fold).1)
 
 pub fold_runs-requires-clause-complete : goal.fold_runs-requires-clause-complete
 fold_runs-requires-clause-complete g c =
     let none =
     c.requires.design.unblocked
-    (unblocked c.args.step.now.blocks (c.args.step.now.fold_fits c.args.folded.now c.requires.fold).1) in
+    (unblocked c.args.step.now.settings.blocks (c.args.step.now.fold_fits c.args.folded.now c.requires.fold).1) in
     omega (arith, c.requires.design.complete, none)
 
 pub fold_runs-requires-clause-fold : goal.fold_runs-requires-clause-fold
@@ -43,7 +43,7 @@ pub plain_plan-requires-clause-no_blocks : goal.plain_plan-requires-clause-no_bl
 plain_plan-requires-clause-no_blocks g c =
     ap (λ (z : Shape). z.t) c.in_ok-runs.ensures.shape
     ∙ c.requires.design.unblocked
-    (unblocked c.args.step.now.blocks (c.args.step.now.fold_fits c.args.folded.now c.requires.fold).1)
+    (unblocked c.args.step.now.settings.blocks (c.args.step.now.fold_fits c.args.folded.now c.requires.fold).1)
 
 pub returns-in_err-runs : goal.returns-in_err-runs
 returns-in_err-runs g c =

@@ -2,17 +2,14 @@ use Rattle.std.proofs.Common.{sym, ◌∙◌}
 use Rattle.std.proofs.lemmas.List.Elements.{All-contains}
 use Rattle.fx_outputs.specs.Validity.{HasItsNames}
 use Rattle.fx_statements.specs.Contexts.{context}
-use Rattle.fx_statements.specs.Valid.{settings_in}
 use Rattle.fx_program.proofs.plans.asked_plan.Goals as goal
 
 pub invariant_of-result : goal.invariant_of-result
 invariant_of-result c =
     let step = c.args.step.now in
     let names =
-    All-contains
-    (HasItsNames (context step.factors
-    (settings_in step.q step.budget step.size step.wanted step.least step.blocks)))
-    step.outputs c.args.output.now step.output_names c.requires.among in
+    All-contains (HasItsNames (context step.factors step.settings)) step.outputs c.args.output.now step.output_names
+    c.requires.among in
     record {
       among = c.requires.among;
       short = names.name.1;

@@ -7,12 +7,12 @@ use Rattle.fx_text.specs.Refusals.{IsRefused}
 use Rattle.fx_settings.specs.declared.said.StepSaid.{StepSaid}
 use Rattle.fx_settings.specs.declared.settings.StepSettings.{StepSettings}
 use Rattle.fx_settings.specs.Settings.{unblocked_of, step_settings_of}
-use Rattle.fx_vectors.specs.Effects.{numbers_of}
-use Rattle.fx_vectors.specs.Question.{CanBeTold}
-use Rattle.fx_statements.specs.Goals.{Goal, goal_by, goal_of}
+use Rattle.fx_designs.specs.Problems.{Requirement}
+use Rattle.fx_vectors.specs.Question.{requirement_of}
+use Rattle.fx_statements.specs.Requirements.{IsOfKind, requirement_by}
 use Rattle.fx_statements.specs.Steps.{asked_by, examine_of}
 use Rattle.fx_statements.specs.Components.{check_components, components_place}
-use Rattle.fx_statements.specs.Valid.{HasFewComponents}
+use Rattle.fx_statements.specs.Valid.{CanBeRequired, HasFewComponents}
 use Rattle.fx_statements.proofs.Bounds.{kept, levels_said, without}
 use Rattle.fx_statements.proofs.Listed.{few_components}
 use Rattle.fx_text.proofs.Stops.{refused, stopped}
@@ -25,20 +25,22 @@ module _ (factors : List (List ℕ)) (said : StepSaid) (statements : List (List 
   at_settings refusal e = rw (← e) refl
 
   module _ (unblocked : StepSettings) (one : Ok unblocked ≡ unblocked_of (length factors) said) where
-    at_goal : (reason : ParseStop) → IsRefused (goal_by unblocked.q factors statements unblocked.criterion) reason
+    at_requirement : (reason : ParseStop)
+        → IsRefused (requirement_by unblocked.q factors statements unblocked.criterion) reason
         → IsRefused (asked_by factors said statements) reason
-    at_goal reason h = rw (← one) (stopped (goal_by unblocked.q factors statements unblocked.criterion) _ reason h)
+    at_requirement reason h =
+        rw (← one) (stopped (requirement_by unblocked.q factors statements unblocked.criterion) _ reason h)
 
-    module _ (wanted : Goal) (settings : StepSettings)
-        (two : goal_by unblocked.q factors statements unblocked.criterion ≡ Ok wanted)
+    module _ (requirement : Requirement) (settings : StepSettings)
+        (two : requirement_by unblocked.q factors statements unblocked.criterion ≡ Ok requirement)
         (three : Ok settings ≡ step_settings_of unblocked said) where
       at_listing : (refusal : Refusal)
-          → Err refusal ≡ check_components unblocked.q (length factors) wanted (components_place statements)
+          → Err refusal ≡ check_components unblocked.q (length factors) requirement (components_place statements)
           → asked_by factors said statements ≡ Err refusal
       at_listing refusal e = rw (← one, two, ← three, ← e) refl
 
-      all_asked : Ok tt ≡ check_components unblocked.q (length factors) wanted (components_place statements)
-          → asked_by factors said statements ≡ Ok (settings, wanted)
+      all_asked : Ok tt ≡ check_components unblocked.q (length factors) requirement (components_place statements)
+          → asked_by factors said statements ≡ Ok (settings, requirement)
       all_asked e = rw (← one, two, ← three, ← e) refl
 
 pub returns-in_err-unblocked-clause-refused : goal.returns-in_err-unblocked-clause-refused
@@ -46,23 +48,23 @@ returns-in_err-unblocked-clause-refused c =
     refused _ _ (stop.Refused c.in_err-unblocked.field-0.0) c.from_residual.ensures.1
     (at_settings c.args.factors.now c.args.said c.args.statements.now _ c.in_err-unblocked.ensures.value)
 
-pub returns-in_err-wanted-clause-refused : goal.returns-in_err-wanted-clause-refused
-returns-in_err-wanted-clause-refused c =
-    refused _ _ c.in_err-wanted.field-0.0 c.from_residual-in_err-wanted.ensures.1
-    (at_goal c.args.factors.now c.args.said c.args.statements.now c.in_ok-unblocked.unblocked
-    c.in_ok-unblocked.ensures.value _ c.in_err-wanted.ensures.refused)
+pub returns-in_err-demands-clause-refused : goal.returns-in_err-demands-clause-refused
+returns-in_err-demands-clause-refused c =
+    refused _ _ c.in_err-demands.field-0.0 c.from_residual-in_err-demands.ensures.1
+    (at_requirement c.args.factors.now c.args.said c.args.statements.now c.in_ok-unblocked.unblocked
+    c.in_ok-unblocked.ensures.value _ c.in_err-demands.ensures.refused)
 
 pub returns-in_err-check_components-clause-refused : goal.returns-in_err-check_components-clause-refused
 returns-in_err-check_components-clause-refused c =
     refused _ _ (stop.Refused c.in_err-check_components.field-0.0) c.from_residual-in_err-check_components.ensures.1
     (at_listing c.args.factors.now c.args.said c.args.statements.now c.in_ok-unblocked.unblocked
-    c.in_ok-unblocked.ensures.value _ _ c.in_ok-wanted.ensures.goal c.in_ok-settings.ensures.value _
+    c.in_ok-unblocked.ensures.value _ _ c.in_ok-demands.ensures.requirement c.in_ok-settings.ensures.value _
     c.in_err-check_components.ensures)
 
 pub returns-clause-asked : goal.returns-clause-asked
 returns-clause-asked c =
     all_asked c.args.factors.now c.args.said c.args.statements.now c.in_ok-unblocked.unblocked
-    c.in_ok-unblocked.ensures.value _ _ c.in_ok-wanted.ensures.goal c.in_ok-settings.ensures.value
+    c.in_ok-unblocked.ensures.value _ _ c.in_ok-demands.ensures.requirement c.in_ok-settings.ensures.value
     c.in_ok-check_components.ensures
 
 pub returns-clause-settings_valid : goal.returns-clause-settings_valid
@@ -71,19 +73,16 @@ returns-clause-settings_valid c =
 
 pub returns-clause-kind : goal.returns-clause-kind
 returns-clause-kind c =
-    c.in_ok-wanted.ensures.kind ∙ sym
-    (kept c.in_ok-unblocked.unblocked c.args.said c.in_ok-settings.settings (sym c.in_ok-settings.ensures.value)).0
-
-pub returns-clause-few_effects : goal.returns-clause-few_effects
-returns-clause-few_effects c = c.in_ok-wanted.ensures.few
+    let same =
+    kept c.in_ok-unblocked.unblocked c.args.said c.in_ok-settings.settings (sym c.in_ok-settings.ensures.value) in
+    subst (λ kind. IsOfKind kind (requirement_of c.in_ok-demands.demands)) (sym same.0) c.in_ok-demands.ensures.kind
 
 pub returns-clause-askable : goal.returns-clause-askable
 returns-clause-askable c =
     let same =
     kept c.in_ok-unblocked.unblocked c.args.said c.in_ok-settings.settings (sym c.in_ok-settings.ensures.value) in
-    λ estimate nonnegligible is.
-    subst (λ q. CanBeTold q (length c.args.factors.now) (numbers_of estimate) (numbers_of nonnegligible)) (sym same.1)
-    (c.in_ok-wanted.ensures.askable estimate nonnegligible is)
+    subst (λ q. CanBeRequired q (length c.args.factors.now) (requirement_of c.in_ok-demands.demands)) (sym same.1)
+    c.in_ok-demands.ensures.askable
 
 pub returns-clause-unblocked : goal.returns-clause-unblocked
 returns-clause-unblocked c =
@@ -94,9 +93,9 @@ pub returns-clause-few_components : goal.returns-clause-few_components
 returns-clause-few_components c =
     let same =
     kept c.in_ok-unblocked.unblocked c.args.said c.in_ok-settings.settings (sym c.in_ok-settings.ensures.value) in
-    subst (λ q. HasFewComponents q (length c.args.factors.now) (goal_of c.in_ok-wanted.wanted)
+    subst (λ q. HasFewComponents q (length c.args.factors.now) (requirement_of c.in_ok-demands.demands)
     (examine_of c.args.statements.now)) (sym same.1)
-    (few_components c.in_ok-unblocked.unblocked.q (length c.args.factors.now) (goal_of c.in_ok-wanted.wanted)
+    (few_components c.in_ok-unblocked.unblocked.q (length c.args.factors.now) (requirement_of c.in_ok-demands.demands)
     c.args.statements.now (sym c.in_ok-check_components.ensures))
 
 pub returns-clause-levels : goal.returns-clause-levels

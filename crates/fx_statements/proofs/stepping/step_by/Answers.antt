@@ -7,7 +7,6 @@ use Rattle.fx_text.specs.Names.{is_same_name}
 use Rattle.fx_text.specs.Refusals.{IsRefused}
 use Rattle.fx_settings.specs.Said.{step_said}
 use Rattle.fx_text.specs.Phrases.{start_of}
-use Rattle.fx_settings.specs.Valid.{are_valid}
 use Rattle.fx_settings.specs.Settings.{levels_of}
 use Rattle.fx_settings.specs.declared.said.StepSaid.{StepSaid}
 use Rattle.fx_outputs.specs.Contexts.{Context}
@@ -20,10 +19,10 @@ use Rattle.fx_text.proofs.Distinct.{behind_differ}
 use Rattle.fx_statements.proofs.Parts.{named_factors}
 use Rattle.fx_statements.specs.Contexts.{context}
 use Rattle.fx_statements.specs.Folds.{IsFold, fold_of}
-use Rattle.fx_statements.specs.Goals.{goal_of}
-use Rattle.fx_statements.specs.Valid.{CanBeWanted, HasFewComponents, most_factors_of}
+use Rattle.fx_vectors.specs.Question.{requirement_of}
+use Rattle.fx_statements.specs.Valid.{CanBeRequired, HasFewComponents, most_factors_of}
 use Rattle.fx_statements.specs.Steps.{asked_by, examine_of, factors_by, head_of, factor_limit}
-use Rattle.fx_statements.proofs.Bounds.{counted, same_settings, unsaid}
+use Rattle.fx_statements.proofs.Bounds.{counted, unsaid}
 use Rattle.fx_statements.proofs.StepByStep.{step_is, settings_refused, fold_refused, outputs_refused}
 use Rattle.fx_text.proofs.Stops.{refused, stopped}
 use Rattle.fx_text.specs.Statements.{statement_of}
@@ -41,14 +40,12 @@ pub invariant_of-result : goal.invariant_of-result
 invariant_of-result c =
     let statements = c.args.statements.now in
     let settings = c.in_ok-settings.settings in
-    let wanted = c.in_ok-settings.wanted in
+    let demands = c.in_ok-settings.demands in
     let bounds = c.in_ok-factors.ensures.bounds in
-    let same = same_settings settings wanted c.in_ok-settings.ensures.kind in
     let factors = c.in_ok-factors.factors in
     let s = ap length c.as_slice.ensures in
     let read =
-    c.context_of-context.ensures ∙ ap (λ factors. context factors settings) c.as_slice-3.ensures ∙ ap
-    (context factors) (sym same) in
+    c.context_of-context.ensures ∙ ap (λ factors. context factors settings) c.as_slice-3.ensures in
     let outputs = c.in_ok-outputs.outputs in
     record {
       factor_count =
@@ -57,21 +54,24 @@ invariant_of-result c =
           (unsaid c.head_of-proc.result c.args.named.now statements c.step_said-said.result c.step_said-said.ensures
           none))
           bounds.0
-          (subst (λ q. length c.in_ok-factors.factors ≤ most_factors_of q (is_some (statement_of word.Blocks statements)))
+          (subst (λ q. length c.in_ok-factors.factors
+          ≤ most_factors_of q (is_some (statement_of word.Blocks statements)))
           (c.levels_of.ensures ∙ sym c.in_ok-settings.ensures.levels)
           (omega (arith, bounds.1, c.factor_limit.ensures.value)));
       distinct = c.in_ok-factors.ensures.distinct;
-      settings_valid = subst (λ x. are_valid x ≡ true) (sym same) c.in_ok-settings.ensures.settings_valid;
-      effects_askable = subst (λ s. CanBeWanted settings.q s wanted) s c.in_ok-settings.ensures.askable;
+      settings_valid = c.in_ok-settings.ensures.settings_valid;
+      kind = c.in_ok-settings.ensures.kind;
+      effects_askable =
+          subst (λ s. CanBeRequired settings.q s (requirement_of demands)) s c.in_ok-settings.ensures.askable;
       outputs_within_limits =
           subst (λ x. All (IsWithinLimits x) outputs) read c.in_ok-outputs.ensures.within_limits;
       factor_names =
           named_factors c.place.result c.factor_limit.result c.args.named.now factors c.requires.by_grammar
           c.requires.names c.in_ok-factors.ensures.factors;
-      few_effects = c.in_ok-settings.ensures.few_effects;
       few_components =
-          subst (λ e. HasFewComponents settings.q (length factors) (goal_of wanted) e) (sym c.examine_of.ensures)
-          (subst (λ n. HasFewComponents settings.q n (goal_of wanted) (examine_of statements)) s
+          subst (λ e. HasFewComponents settings.q (length factors) (requirement_of demands) e)
+          (sym c.examine_of.ensures)
+          (subst (λ n. HasFewComponents settings.q n (requirement_of demands) (examine_of statements)) s
           c.in_ok-settings.ensures.few_components);
       fold_fits =
           subst (λ s. IsFold settings.q settings.blocks s c.in_ok-fold.fold) (ap length c.as_slice-2.ensures)
@@ -92,14 +92,14 @@ returns-clause-step c =
     let named = c.args.named.now in
     let factors = c.in_ok-factors.factors in
     let settings = c.in_ok-settings.settings in
-    let wanted = c.in_ok-settings.wanted in
+    let requirement = requirement_of c.in_ok-settings.demands in
     let is_named : factors_by (start_of (head_of statements)) (factor_limit named statements) named ≡ Ok factors =
     ap₂ (λ place most. factors_by place most named) (sym (c.place.ensures ∙ ap start_of c.head_of-proc.ensures))
     (sym (limit c.head_of-proc.result statements named c.factor_limit.ensures.value c.levels_of.ensures
     c.step_said-said.ensures))
     ∙ c.in_ok-factors.ensures.factors in
     let is_asked : asked_by factors (step_said (head_of statements) named statements) statements
-    ≡ Ok (settings, goal_of wanted) =
+    ≡ Ok (settings, requirement) =
     ap₂ (λ names said. asked_by names said statements) (sym c.as_slice.ensures)
     (sym (c.step_said-said.ensures ∙ ap (λ p. step_said p named statements) c.head_of-proc.ensures))
     ∙ c.in_ok-settings.ensures.asked in
@@ -109,8 +109,9 @@ returns-clause-step c =
     ap (λ x. outputs_of x c.args.earlier.now statements)
     (sym (c.context_of-context.ensures ∙ ap (λ names. context names settings) c.as_slice-3.ensures))
     ∙ c.in_ok-outputs.ensures.ok in
-    step_is c.args.earlier.now statements named factors settings wanted c.in_ok-fold.fold c.in_ok-outputs.outputs
-    is_named is_asked is_fold are_outputs c.examine_of.result c.examine_of.ensures c.in_ok-settings.ensures.kind
+    rw c.examine_of.ensures
+    (step_is c.args.earlier.now statements named factors settings requirement c.in_ok-fold.fold
+    c.in_ok-outputs.outputs is_named is_asked is_fold are_outputs)
 
 pub returns-in_err-outputs-clause-refused : goal.returns-in_err-outputs-clause-refused
 returns-in_err-outputs-clause-refused c =
@@ -125,7 +126,7 @@ returns-in_err-outputs-clause-refused c =
     c.step_said-said.ensures))
     ∙ c.in_ok-factors.ensures.factors in
     let is_asked : asked_by factors (step_said (head_of statements) named statements) statements
-    ≡ Ok (settings, goal_of c.in_ok-settings.wanted) =
+    ≡ Ok (settings, requirement_of c.in_ok-settings.demands) =
     ap₂ (λ names said. asked_by names said statements) (sym c.as_slice.ensures)
     (sym (c.step_said-said.ensures ∙ ap (λ p. step_said p named statements) c.head_of-proc.ensures))
     ∙ c.in_ok-settings.ensures.asked in
@@ -137,7 +138,8 @@ returns-in_err-outputs-clause-refused c =
     c.in_err-outputs.ensures.refused in
     let p = err_from_is_err_and c.from_residual-in_err-outputs.result c.from_residual-in_err-outputs.ensures.1 in
     rw (p.1, p.2)
-    (outputs_refused c.args.earlier.now statements named factors settings c.in_ok-settings.wanted is_named is_asked
+    (outputs_refused c.args.earlier.now statements named factors settings (requirement_of c.in_ok-settings.demands)
+    is_named is_asked
     c.in_ok-fold.fold is_fold reason refused)
 
 pub returns-in_err-fold-clause-refused : goal.returns-in_err-fold-clause-refused
@@ -153,7 +155,7 @@ returns-in_err-fold-clause-refused c =
     c.step_said-said.ensures))
     ∙ c.in_ok-factors.ensures.factors in
     let is_asked : asked_by factors (step_said (head_of statements) named statements) statements
-    ≡ Ok (settings, goal_of c.in_ok-settings.wanted) =
+    ≡ Ok (settings, requirement_of c.in_ok-settings.demands) =
     ap₂ (λ names said. asked_by names said statements) (sym c.as_slice.ensures)
     (sym (c.step_said-said.ensures ∙ ap (λ p. step_said p named statements) c.head_of-proc.ensures))
     ∙ c.in_ok-settings.ensures.asked in
@@ -162,7 +164,8 @@ returns-in_err-fold-clause-refused c =
     c.in_err-fold.ensures.refused in
     let p = err_from_is_err_and c.from_residual-in_err-fold.result c.from_residual-in_err-fold.ensures.1 in
     rw (p.1, p.2)
-    (fold_refused c.args.earlier.now statements named factors settings c.in_ok-settings.wanted is_named is_asked
+    (fold_refused c.args.earlier.now statements named factors settings (requirement_of c.in_ok-settings.demands)
+    is_named is_asked
     reason fold_is_refused)
 
 pub returns-clause-differ : goal.returns-clause-differ
@@ -208,9 +211,6 @@ pub returns-clause-plans : goal.returns-clause-plans
 returns-clause-plans c =
     let settings = c.in_ok-settings.settings in
     let factors = c.in_ok-factors.factors in
-    let same = same_settings settings c.in_ok-settings.wanted c.in_ok-settings.ensures.kind in
-    let read =
-    c.context_of-context.ensures ∙ ap (λ names. context names settings) c.as_slice-3.ensures
-    ∙ ap (context factors) (sym same) in
+    let read = c.context_of-context.ensures ∙ ap (λ names. context names settings) c.as_slice-3.ensures in
     c.in_ok-outputs.ensures.plans
     ∙ ap (λ (x : Context). built (plan_behind x) c.args.earlier.now c.in_ok-outputs.outputs) read
