@@ -13,3 +13,6 @@ pub mod Taken
 pub mod Placed
 pub mod OwnNames
 pub mod OptionParts
+pub mod DerivedNames
+pub mod FreeNames
+pub mod DifferentColumns

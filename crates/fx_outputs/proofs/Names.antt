@@ -115,7 +115,7 @@ is_free : (factors : List (List ℕ)) (name : List ℕ) (w : Written) → check_
 is_free factors name w e =
     not_found (place_of name factors) (unless (is_some (place_of name factors)) (refusal_at 5 w) e)
 
-its_names : (context : Context) (earlier : List EarlierPlan) (a b c d : Written) (options : List Written)
+pub its_names : (context : Context) (earlier : List EarlierPlan) (a b c d : Written) (options : List Written)
     (output : OutputSpec)
     → IsAccepted (a ∷ b ∷ c ∷ d ∷ options) → is Output a.symbol ≡ true
     → output_spec context earlier a d (options_of (d ∷ options)) ≡ Ok output → HasItsNames context output

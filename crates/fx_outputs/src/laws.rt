@@ -8,7 +8,7 @@ ghost use Rattle.fx_text.specs.Names.{is_same_name};
 ghost use Rattle.fx_text.specs.Sentences.{IsAccepted, IsStatement};
 ghost use Rattle.fx_text.specs.Written.{Written};
 ghost use Rattle.fx_outputs.specs.Contexts.{Context};
-ghost use Rattle.fx_outputs.specs.Earlier.{HasFewRows, plan_names};
+ghost use Rattle.fx_outputs.specs.Earlier.{HasFewRows, file_columns, plan_names};
 ghost use Rattle.fx_outputs.specs.Histories.{built};
 ghost use Rattle.fx_outputs.specs.Outputs.{names_of, output_spec, outputs_of, plan_behind};
 ghost use Rattle.fx_outputs.specs.Readings.{AreOptionsRead, NamesEarlier};
@@ -51,4 +51,15 @@ pub fn out_names_differ()
         (outputs : List OutputSpec) → IsDistinct is_same_name (plan_names earlier)
         → outputs_of context earlier statements ≡ Ok outputs
         → IsDistinct is_same_name (plan_names earlier ++ names_of outputs) }
+{}
+
+/// No two columns of a file have the same name, without regard to case: neither of its own, nor of the
+/// plans that it names.
+pub fn columns_differ()
+    ensures { (context : Context) (earlier : List EarlierPlan) (statements : List (List Written))
+        (outputs : List OutputSpec) → IsDistinct is_same_name context.factors
+        → All (IsDistinct is_same_name) (file_columns earlier)
+        → AllByRecursion IsAccepted statements
+        → outputs_of context earlier statements ≡ Ok outputs
+        → All (IsDistinct is_same_name) (file_columns (built (plan_behind context) earlier outputs)) }
 {}

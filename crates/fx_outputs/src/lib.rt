@@ -20,8 +20,8 @@ pub use context::{BlockCount, OutputContext};
 pub use derived::{Derived, Deriveds};
 pub use earlier::{EarlierPlan, EarlierPlans};
 pub use laws::{
-    named_plans_are_earlier, names_are_read_by_the_grammar, out_names_differ, outputs_have_names,
-    plans_keep_the_limit,
+    columns_differ, named_plans_are_earlier, names_are_read_by_the_grammar, out_names_differ,
+    outputs_have_names, plans_keep_the_limit,
 };
 pub use output::{OutputSpec, Outputs, outputs};
 pub use recode::{Recode, Recodes};
