@@ -10,3 +10,4 @@ pub mod RangeParts
 pub mod Placed
 pub mod Stops
 pub mod ByLexemes
+mod Examples
