@@ -1,5 +1,6 @@
 -- What a line claims of all rule matrices.
-use Rattle.std.proofs.Common.{ℕ, ◌≡◌, ◌<◌, ◌≤◌, ◌+◌, ◌↔◌, true, false, List, length, Option, Some, None, refl, sym, subst}
+use Rattle.std.proofs.Common.{ℕ, ◌≡◌, ◌<◌, ◌≤◌, ◌+◌, ◌↔◌, true, false, List, length, Option, Some, None, refl, sym}
+use Rattle.std.proofs.Common.{subst}
 use Rattle.std.proofs.Common.{◌∙◌, ap, arith, inl, inr, is_some}
 use Rattle.std.specs.Option.{option_map}
 use Rattle.std.specs.Prelude.{nat_lt}
@@ -22,8 +23,13 @@ use Rattle.fx_checker.specs.Claims.{claim_of}
 use Rattle.fx_checker.proofs.Marks.{claim_over, none_good, some_good}
 use Rattle.fx_catalogue.specs.declared.line.Line.TheVariants.{Nothing, Budget}
 use Rattle.fx_catalogue.specs.Lines.{line_by, line_of, problem_at}
-use Rattle.fx_catalogue.specs.Laws.{IsAbsent, IsLeast, Holds}
+use Rattle.fx_catalogue.specs.Laws.{IsAbsent, IsLeast, Holds, head_at}
 use Rattle.fx_catalogue.proofs.Answered.{within}
+
+-- the head of the book of a line, by the answer of its question
+pub head-by-answer : (shape : Shape) (found : Option (List ℕ)) → answer (problem_at shape) ≡ found
+    → (book_for (problem_at shape)).head ≡ head_at shape (option_map (pattern_of (dimensions_of shape)) found)
+head-by-answer shape found is = ap (λ a. head_at shape (option_map (pattern_of (dimensions_of shape)) a)) is
 
 module _ (shape : Shape) (hs : IsShape shape) (free : shape.t ≡ 0) where
   abbrev p : Problem
@@ -43,6 +49,7 @@ module _ (shape : Shape) (hs : IsShape shape) (free : shape.t ≡ 0) where
   absent : answer p ≡ None → IsAbsent shape (book_for p)
   absent none = record {
     none = (none-exactly p field (omega arith)).0 ((no_answer p some).0 none);
+    head_is = head-by-answer shape None none;
     good = good None (ap (option_map (pattern_of p.dimensions)) none)
         (none_good p hs.order (omega arith, omega arith) some false none);
   }
@@ -59,6 +66,7 @@ module _ (shape : Shape) (hs : IsShape shape) (free : shape.t ≡ 0) where
         pattern_is = refl;
         least = λ factors blocks matrix met.
             least-of_all p field (omega arith) rows factors blocks refl is matrix met;
+        head_is = head-by-answer shape (Some rows) is;
         good = good (Some (pattern_of p.dimensions rows)) (ap (option_map (pattern_of p.dimensions)) is)
             (some_good p hs.order (omega arith, omega arith) some true refl rows is);
       }

@@ -1,5 +1,6 @@
 -- How a catalogue is listed, and which lines its claims exclude.
-use Rattle.std.proofs.Common.{ℕ, ◌≡◌, ◌<◌, true, List, [], ◌∷◌, refl, arith}
+use Rattle.std.proofs.Common.{ℕ, ◌≡◌, ◌<◌, ◌⊎◌, inl, inr, true, List, [], ◌∷◌, Option, Some, None, is_some, refl, sym}
+use Rattle.std.proofs.Common.{◌∙◌, ap, arith}
 use Rattle.std.specs.Prelude.{codes}
 use Rattle.std.specs.Fmt.{digits}
 use Rattle.std.proofs.lemmas.Bool.{both_ways}
@@ -16,10 +17,11 @@ use Rattle.fx_vectors.specs.Matrix.{MatrixView}
 use Rattle.fx_vectors.specs.Shape.{dimensions_of}
 use Rattle.fx_vectors.specs.declared.shape.Shape.{Shape}
 use Rattle.fx_vectors.specs.declared.book.Book.{Book}
+use Rattle.fx_vectors.specs.declared.book.Head.{Head}
 use Rattle.fx_catalogue.specs.declared.line.Line.TheVariants.{Least, Nothing, Budget}
 use Rattle.fx_catalogue.specs.Catalogues.{Entry, book_name, entries_status, files_of, shape_at, up_to}
 use Rattle.fx_catalogue.specs.Catalogues.{is_budget}
-use Rattle.fx_catalogue.specs.Laws.{IsAbsent, IsLeast}
+use Rattle.fx_catalogue.specs.Laws.{IsAbsent, IsLeast, head_at}
 use Rattle.fx_catalogue.specs.Listing.{head_text, line_text}
 
 abbrev with_rows : List ℕ → MatrixView
@@ -49,7 +51,8 @@ statuses book = (refl, refl, refl)
 
 -- the first that passes is the last
 first_passes : (book : Book)
-    → up_to (λ (e : Entry). is_budget e.line) (record { factors = 4; line = Budget } ∷ record { factors = 5; line = Budget } ∷ [])
+    → up_to (λ (e : Entry). is_budget e.line)
+    (record { factors = 4; line = Budget } ∷ record { factors = 5; line = Budget } ∷ [])
     ≡ record { factors = 4; line = Budget } ∷ []
 first_passes book = refl
 
@@ -89,6 +92,35 @@ not_absent : (book : Book) → IsAbsent (shape_at 2 3 4) book → ⊥
 unfolding prime_of degree_of reduction_of add mul neg inv runs_of is_constant is_balanced are_blocks_even
     is_balanced_in_blocks must_balance is_estimated
 not_absent book line = both_ways true (line.none half [] in_eight_runs) refl
+
+abbrev factors_of : Head → ℕ
+factors_of h = h.question.shape.s
+
+four_or_five : ◌≡◌ {A = ℕ} 4 5 → ⊥
+four_or_five e = omega (arith, e)
+
+-- the book of a line is about its own shape, at resolution 3
+other_line : (matrix : MatrixView) (pattern : List ℕ) (book : Book) (beat : Option (List ℕ))
+    → book.head ≡ head_at (shape_at 2 3 5) beat
+    → IsLeast (shape_at 2 3 4) matrix pattern book ⊎ IsAbsent (shape_at 2 3 4) book
+    → ⊥
+other_line matrix pattern book beat is (inl line) = four_or_five (ap factors_of (sym line.head_is ∙ is))
+other_line matrix pattern book beat is (inr line) = four_or_five (ap factors_of (sym line.head_is ∙ is))
+
+-- the book of a line with a design has a pattern to beat, that of a line without one has none
+no_pattern : (shape : Shape) (matrix : MatrixView) (pattern : List ℕ) (book : Book)
+    → book.head.beat ≡ None
+    → IsLeast shape matrix pattern book
+    → ⊥
+no_pattern shape matrix pattern book is line =
+    both_ways (is_some book.head.beat) (ap is_some is) (ap (λ (h : Head). is_some h.beat) line.head_is)
+
+with_pattern : (shape : Shape) (pattern : List ℕ) (book : Book)
+    → book.head.beat ≡ Some pattern
+    → IsAbsent shape book
+    → ⊥
+with_pattern shape pattern book is line =
+    both_ways (is_some book.head.beat) (ap (λ (h : Head). is_some h.beat) line.head_is) (ap is_some is)
 
 -- what the lines give of any shape
 least : (shape : Shape) (matrix : MatrixView) (pattern : List ℕ) (book : Book)
