@@ -12,6 +12,7 @@ use Rattle.fx_catalogue.specs.Catalogues.{Entry, entries, shape_at}
 use Rattle.fx_catalogue.specs.Lines.{line_by, line_of, problem_at}
 use Rattle.fx_catalogue.specs.declared.line.Line.{Line}
 use Rattle.fx_catalogue.specs.declared.line.Line.TheVariants.{Budget}
+use Rattle.fx_catalogue.proofs.Claimed.{head-by-answer}
 use Rattle.fx_program.specs.CommandLine.{IsCatalogue}
 use Rattle.fx_program.proofs.CatalogueClaims.{each_line}
 use Rattle.fx_program.proofs.CatalogueLines.{line_shape}
@@ -27,31 +28,38 @@ module _ (shape : Shape) (shaped : IsShape shape) (free : shape.t ≡ 0) where
     few = tt;
   }
 
-  by_answer : (s : ℕ) (found : Option (List ℕ)) → length (nodes (problem_at shape)) ≤ 5000000
-      → HasAcceptedBook s (line_by shape found)
-  by_answer s None few = accepted_book (problem_at shape) (may, few) s refl
-  by_answer s (Some rows) few = accepted_book (problem_at shape) (may, few) s refl
+  by_answer : (found : Option (List ℕ)) → length (nodes (problem_at shape)) ≤ 5000000
+      → answer (problem_at shape) ≡ found
+      → HasAcceptedBook shape (line_by shape found)
+  by_answer None few is = record {
+    is_accepted = accepted_book (problem_at shape) (may, few) shape.s refl;
+    head_is = head-by-answer shape None is;
+  }
+  by_answer (Some rows) few is = record {
+    is_accepted = accepted_book (problem_at shape) (may, few) shape.s refl;
+    head_is = head-by-answer shape (Some rows) is;
+  }
 
-  line_accepted : (s budget : ℕ) → budget ≤ 5000000 → HasAcceptedBook s (line_of shape budget)
+  line_accepted : (budget : ℕ) → budget ≤ 5000000 → HasAcceptedBook shape (line_of shape budget)
   unfolding line_of
-  line_accepted s budget few =
+  line_accepted budget few =
       let count : ℕ = length (nodes (problem_at shape)) in
       let own : Line = line_by shape (answer (problem_at shape)) in
       elim (cases_Bool (nat_lt budget count)) [
-        | inl more ↦ subst (HasAcceptedBook s) (sym (cond-true (nat_lt budget count) Budget own more)) tt
+        | inl more ↦ subst (HasAcceptedBook shape) (sym (cond-true (nat_lt budget count) Budget own more)) tt
         | inr inside ↦
-            subst (HasAcceptedBook s) (sym (cond-false (nat_lt budget count) Budget own inside))
-            (by_answer s (answer (problem_at shape))
-            (let within : count ≤ budget = ltb-false budget count inside in omega (arith, within, few)))
+            subst (HasAcceptedBook shape) (sym (cond-false (nat_lt budget count) Budget own inside))
+            (by_answer (answer (problem_at shape))
+            (let within : count ≤ budget = ltb-false budget count inside in omega (arith, within, few)) refl)
       ]
 
 pub catalogue_accepted : (q m most budget : ℕ) → IsCatalogue q m most budget
-    → All (λ (e : Entry). HasAcceptedBook e.factors e.line) (entries q m most budget)
+    → All (λ (e : Entry). HasAcceptedBook (shape_at q m e.factors) e.line) (entries q m most budget)
 unfolding entries
 catalogue_accepted q m most budget h =
     All-from_recursion _ (entries q m most budget)
-    (each_line q m budget (λ (e : Entry). HasAcceptedBook e.factors e.line) (most - m) (m + 1)
+    (each_line q m budget (λ (e : Entry). HasAcceptedBook (shape_at q m e.factors) e.line) (most - m) (m + 1)
     (λ x from upto.
     let more : m < x = omega (arith, from) in
     let low : x ≤ most = omega (arith, upto, h.dependent) in
-    line_accepted (shape_at q m x) (line_shape h x more low) refl x budget h.budget.1))
+    line_accepted (shape_at q m x) (line_shape h x more low) refl budget h.budget.1))

@@ -12,7 +12,9 @@ use Rattle.fx_settings.specs.declared.settings.Blocks.TheVariants.{Most}
 use Rattle.fx_settings.specs.Valid.{has_blocks}
 use Rattle.fx_vectors.specs.Question.{problem_of}
 use Rattle.fx_vectors.specs.declared.book.Book.{Book}
+use Rattle.fx_vectors.specs.declared.shape.Shape.{Shape}
 use Rattle.fx_vectors.specs.declared.book.NamedBook.{NamedBook}
+use Rattle.fx_catalogue.specs.Laws.{head_at}
 use Rattle.fx_catalogue.specs.declared.line.Line.{Line}
 use Rattle.fx_catalogue.specs.declared.line.Line.TheVariants.{Least, Nothing, Budget}
 use Rattle.fx_book.specs.Heads.{book_of}
@@ -36,11 +38,16 @@ pub record IsAcceptedBook (named : NamedBook) : Type 0 where
   pub accepted : AreGiven (codes "check" ∷ []) (book_text named.book)
       (message (verdict_lines named.book.head Accepted) 0)
 
--- the book of a line of a catalogue, for so many factors, is one, where the line has a book
-abbrev pub HasAcceptedBook : ℕ → Line → Type 0
-HasAcceptedBook s (Least matrix pattern count book) = IsAcceptedBook (record { question = s; book = book })
-HasAcceptedBook s (Nothing count book) = IsAcceptedBook (record { question = s; book = book })
-HasAcceptedBook s Budget = Unit {0}
+-- a book of a line of a catalogue of this shape is one, and the line's own: with this pattern to beat, or none
+pub record IsBookOfLine (shape : Shape) (beat : Option (List ℕ)) (book : Book) : Type 0 where
+  pub is_accepted : IsAcceptedBook (record { question = shape.s; book = book })
+  pub head_is : book.head ≡ head_at shape beat
+
+-- the book of a line of a catalogue, where the line has one: a least pattern is the one to beat
+abbrev pub HasAcceptedBook : Shape → Line → Type 0
+HasAcceptedBook shape (Least matrix pattern count book) = IsBookOfLine shape (Some pattern) book
+HasAcceptedBook shape (Nothing count book) = IsBookOfLine shape None book
+HasAcceptedBook shape Budget = Unit {0}
 
 -- each book of a step is one
 abbrev pub HasAcceptedBooks : Meaning → Type 0

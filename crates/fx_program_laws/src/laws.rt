@@ -33,7 +33,7 @@ ghost use Rattle.fx_program.specs.Texts.{program_in};
 ghost use Rattle.fx_designs.specs.Outcomes.{Design, NoDesign};
 ghost use Rattle.fx_program.specs.declared.words.Settings.TheVariants.{Catalogue, Large, Run};
 ghost use Rattle.fx_program.specs.CommandLine.{IsCatalogue};
-ghost use Rattle.fx_catalogue.specs.Catalogues.{Entry, entries};
+ghost use Rattle.fx_catalogue.specs.Catalogues.{Entry, entries, shape_at};
 ghost use Rattle.fx_program.specs.Commands.{AreGiven, command_of};
 ghost use Rattle.fx_program.specs.Output.{Output, message, program_output, step_output, step_status};
 ghost use Rattle.fx_program.specs.Planning.{planned_in, planned_output};
@@ -231,10 +231,11 @@ pub fn books_are_accepted_in_any_text()
     ensures { (text : List ℕ) → EachStep HasAcceptedBooks (program_in text) }
 {}
 
-/// Each book of a catalogue is read from its file as it is, and `check` accepts it, with status 0.
+/// Each book of a catalogue is read from its file as it is, and `check` accepts it, with status 0; it is
+/// about the shape of its line at resolution 3, with the pattern of the line's design, if there is one.
 pub fn catalogued_books_are_accepted()
     ensures { (q m most nodes : ℕ) → IsCatalogue q m most nodes
-        → All (λ (e : Entry). HasAcceptedBook e.factors e.line) (entries q m most nodes) }
+        → All (λ (e : Entry). HasAcceptedBook (shape_at q m e.factors) e.line) (entries q m most nodes) }
 {}
 
 /// Whatever a text says: where `check` of it ends with status 0, it is a book, and its claim holds: the
