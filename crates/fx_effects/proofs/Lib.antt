@@ -5,3 +5,4 @@ pub mod Covered
 pub mod Apart
 pub mod Within
 pub mod Placed
+mod Examples
