@@ -12,3 +12,4 @@ pub mod Divided
 pub mod Good
 pub mod Comparing
 pub mod LeastOf
+mod Examples
