@@ -1,3 +1,4 @@
 mod Below
 mod Proved
 mod Entries
+mod Examples
