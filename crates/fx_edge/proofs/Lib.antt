@@ -1,2 +1,3 @@
 mod Filing
 pub mod Untouched
+mod Examples
