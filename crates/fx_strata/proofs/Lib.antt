@@ -32,3 +32,4 @@ mod Once
 mod Orders
 mod Keys
 mod Examples
+mod SpreadUses

@@ -31,7 +31,7 @@ const HALF_LISTING: &str =
     "step 1\nfactors 4 levels 2\ndesign 8 runs\nresolution 4\nnodes 4\nrules\n  D = A*B*C\n";
 
 /// Each text with its listing and status.
-const PROGRAMS: [(&str, &str, u8); 46] = [
+const PROGRAMS: [(&str, &str, u8); 47] = [
     (
         "proc factex; factors A B C D; output out=a [A B C D]=Q;",
         "step 1\nfactors 4 levels 2\ndesign 16 runs\nno defining words\nnodes 12\nrules\n  none\noutput a.csv 16 rows\nderived Q 16 levels balanced\n",
@@ -40,6 +40,11 @@ const PROGRAMS: [(&str, &str, u8); 46] = [
     (
         "proc factex; factors A B C / nlev=4; output out=a [A B C]=Q;",
         "step 1\nfactors 3 levels 4\ndesign 64 runs\nno defining words\nnodes 6\nrules\n  none\noutput a.csv 64 rows\nderived Q 64 levels balanced\n",
+        0,
+    ),
+    (
+        "proc factex;factors A;size design=4;model r=max;blocks nblocks=2;",
+        "step 1\nfactors 1 levels 2\ndesign 4 runs in 2 blocks\nno defining words\nblocks clear to resolution 3 highest\nnodes 2\nrules\n  [1] = run factor 2\n",
         0,
     ),
     (HALF, HALF_LISTING, 0),

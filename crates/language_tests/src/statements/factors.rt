@@ -2,7 +2,7 @@
 use crate::statements::{are_accepted, are_refused};
 
 /// Factors are refused at their items.
-const REFUSED: [(&str, u8, u32, u32); 16] = [
+const REFUSED: [(&str, u8, u32, u32); 17] = [
     ("factors X1-X3 X2;", 5, 2, 15),
     ("factors A b a;", 5, 2, 13),
     ("factors X2 x1-x3;", 5, 2, 12),
@@ -14,6 +14,7 @@ const REFUSED: [(&str, u8, u32, u32); 16] = [
     ("factors X-X3;", 30, 2, 9),
     ("factors A X1-X;", 30, 2, 11),
     ("factors X1-X64;", 10, 2, 9),
+    ("factors X1-X64/nlev=3;", 10, 2, 9),
     ("factors X1-X41/nlev=4;", 10, 2, 9),
     ("factors X1-X63 Y;", 10, 2, 16),
     ("factors Y X1-X63 Z;", 10, 2, 11),
@@ -35,8 +36,9 @@ const WITHOUT_FACTORS: [(&str, u8, u32, u32); 4] = [
 ];
 
 /// Factors within the limits are accepted.
-const WITHIN_THE_LIMITS: [&str; 12] = [
+const WITHIN_THE_LIMITS: [&str; 13] = [
     "factors X1-X63;size design=8;",
+    "factors X1-X63/nlev=3;size design=9;",
     "factors Y X2-X40/nlev=4;size design=4;",
     "factors X1-X30;model r=3;size design=8;blocks nblkfacs=1;",
     "factors X0-X2 x3-X3 X9-X11 X01 _9-_10;size design=8;",
