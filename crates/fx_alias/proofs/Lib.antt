@@ -16,6 +16,7 @@ mod Walk
 mod Heads
 mod Heavier
 mod Subjects
+mod RuleUses
 mod Exact
 mod Rising
 pub mod RuleLines

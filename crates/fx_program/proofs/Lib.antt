@@ -28,6 +28,7 @@ mod Examples
 mod Ruling
 mod TableLimits
 mod TableNames
+mod TableUses
 mod Tabulated
 pub mod SomeOutput
 mod Uses

@@ -2,3 +2,4 @@ mod Below
 mod Proved
 mod Entries
 mod Examples
+mod LineUses
