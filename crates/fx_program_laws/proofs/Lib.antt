@@ -21,3 +21,4 @@ mod ReadBack
 mod ReadBackExamples
 mod Past
 mod BookKinds
+mod LineUses

@@ -1,5 +1,5 @@
 -- What the claims of lines give: a claim that is weakened does not.
-use Rattle.std.specs.Prelude.{ℕ, ◌≡◌, ◌≤◌, true, List, length, Option, Some, None}
+use Rattle.std.specs.Prelude.{ℕ, ◌≡◌, ◌≤◌, true, List, length, Option, None}
 use Rattle.fx_vectors.specs.Matrix.{MatrixView}
 use Rattle.fx_strata.specs.Designs.{IsLeast, IsStratified, key_of}
 use Rattle.fx_strata.specs.Canonical.{figures}
@@ -40,4 +40,4 @@ book_of_line base order key book is = (is.base_is, is.order_is, is.key_is, is.ac
 line_of_none : (base : Base) (order : Order) (budget : ℕ) (book : TableBook) → Holds base order budget (Nothing book)
     → ((blocks factors : List (List ℕ)) → IsStratified (strata_of base) blocks factors → ⊥)
     × IsAccepted base order None book × (length book.entries ≤ budget)
-line_of_none base order budget book line = (line.0.none, line.0.proved, line.1)
+line_of_none base order budget book line = (let absent = line.0 in (absent.none, absent.proved, line.1))

@@ -41,7 +41,7 @@ fn has_whole_files(left: &Outside, files: usize) -> bool {
 }
 
 /// Lines, each with its listing, the number of its books, and its status.
-const TABLES: [(&str, &str, usize, u8); 15] = [
+const TABLES: [(&str, &str, usize, u8); 16] = [
     ("tables 2 3 5", FIVE, 2, 0),
     // No line comes after the one without a design.
     ("tables 2 3 63", EIGHT, 5, 1),
@@ -110,6 +110,13 @@ const TABLES: [(&str, &str, usize, u8); 15] = [
         "table levels 9 runs 9\nfactors 2 entries 1 none\n",
         1,
         1,
+    ),
+    // Ten run indexes are the most. A prefix of blocks has its images by all of them.
+    (
+        "tables 2 10 3 --blocks=512 --nodes=512",
+        "table levels 2 runs 1024 blocks 512\nfactors 1 entries 1 no defining words\nrules none\nfactors 2 entries 1 no defining words B2 1\nrules [1]=X1*X2\nfactors 3 entries 512 no defining words B2 3\nrules [1]=X1*X3 [2]=X1*X2\n",
+        3,
+        0,
     ),
 ];
 
