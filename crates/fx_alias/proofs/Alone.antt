@@ -19,7 +19,7 @@ use Rattle.fx_alias.proofs.Same.{items_at}
 guarded : (constant other x y : Bool) → (constant ≡ false → x ≡ y)
     → (not constant && (other && x)) ≡ (not constant && (other && y))
 guarded true other x y h = refl
-guarded false other x y h = ap (λ z. other && z) (h refl)
+guarded false other x y h = cc (h refl)
 
 module _ (matrix : MatrixView) (f : IsField matrix.shape.q) (components : List (List ℕ)) (numbers : List ℕ)
     (is : numbers ≡ map (number_by matrix) components) (i : ℕ) (low : i < length components) (u : List ℕ)
@@ -34,21 +34,21 @@ module _ (matrix : MatrixView) (f : IsField matrix.shape.q) (components : List (
 
     number_is : get_or numbers i 0 ≡ number_by matrix u
     number_is =
-        ap (λ l. get_or l i 0) is ∙ get_or-map (number_by matrix) components i u 0 low ∙ ap (number_by matrix) at
+        cc (get_or-map (number_by matrix) components i u 0 low)
 
     -- its class has as many components as its group has places
     class_size : is_constant q u rows ≡ false → length (class_of q rows components u) ≡ length group
     class_size e =
         let p : ℕ → Bool = λ j. eqb (get_or numbers j 0) (number_by matrix u) in
         let item : ℕ → List ℕ = λ j. get_or components j [] in
-        let count : length numbers ≡ length components = ap length is ∙ length-map components (number_by matrix) in
         ap length
-        (filter_agree (λ v. is_aliased q rows u v) (λ v. eqb (number_by matrix v) (number_by matrix u))
+        (filter_agree (is_aliased q rows u) (λ v. eqb (number_by matrix v) (number_by matrix u))
         (λ v. aliased_number q f matrix.shape.m matrix.rows u v e ∙ eqb_comm (number_by matrix u) (number_by matrix v))
         components
-        ∙ sym (items_at (number_by matrix) components numbers (number_by matrix u) is))
+        ∙ sym (items_at _ components numbers (number_by matrix u) is))
         ∙ length-map (filter p (range_with_len 0 (length components))) item
-        ∙ ap (λ n. length (filter p (range_with_len 0 n))) (sym count)
+        ∙ ap (λ n. length (filter p (range_with_len 0 n)))
+        (sym (ap length is ∙ length-map components (number_by matrix)))
         ∙ ap (λ z. length (filter (λ j. eqb (get_or numbers j 0) z) (range_with_len 0 (length numbers))))
         (sym number_is)
         ∙ ap length (sym same)
@@ -57,5 +57,5 @@ module _ (matrix : MatrixView) (f : IsField matrix.shape.q) (components : List (
         ≡ (not (is_constant q u rows)
         && (not (is_constant_in_blocks q matrix.shape.s (q ^ matrix.shape.t) u rows) && eqb (length group) 1))
     clear_by_group =
-        guarded (is_constant q u rows) (not (is_constant_in_blocks q matrix.shape.s (q ^ matrix.shape.t) u rows))
-        (eqb (length (class_of q rows components u)) 1) (eqb (length group) 1) (λ e. ap (λ n. eqb n 1) (class_size e))
+        guarded _ _
+        _ _ (λ e. ap (λ n. eqb n 1) (class_size e))

@@ -1,7 +1,7 @@
 -- The entries of the list of words that are confounded with blocks.
-use Rattle.std.proofs.Common.{ℕ, ◌≡◌, ◌<◌, ◌≤◌, ◌+◌, ◌-◌, ◌/◌, ◌^◌, ◌∙◌, ◌&&◌, ◌++◌, Bool, true, false, cond, eqb, List}
-use Rattle.std.proofs.Common.{[], ◌∷◌, length, take, drop, get_or, refl, sym, subst, ap, arith, inl, inr}
-use Rattle.std.specs.Prelude.{not, count_by}
+use Rattle.std.proofs.Common.{ℕ, ◌≡◌, ◌<◌, ◌≤◌, ◌+◌, ◌-◌, ◌/◌, ◌^◌, ◌∙◌, ◌&&◌, ◌++◌, true, false, cond, eqb, List}
+use Rattle.std.proofs.Common.{[], ◌∷◌, length, take, get_or, refl, sym, subst, ap, arith, inl, inr}
+use Rattle.std.specs.Prelude.{count_by}
 use Rattle.std.proofs.lemmas.Bool.{cases_Bool, and_right}
 use Rattle.std.proofs.lemmas.List.{take-map, take_more, take_all, length-map}
 use Rattle.std.proofs.lemmas.List.Elements.{recursion_from_All}
@@ -43,11 +43,11 @@ module _ (matrix : MatrixView) where
 
   pub words_entry : (i : ℕ) → i < s → get_or (block_words_of matrix) i 0 ≡ confounded (i + 1) / (q - 1)
   unfolding block_words_of
-  words_entry i low = get_or-map-range_with_len (λ k. confounded k / (q - 1)) 1 s i (i + 1) 0 low (omega arith)
+  words_entry i low = get_or-map-range_with_len (λ k. confounded k / (q - 1)) 1 s i _ 0 low (omega arith)
 
   pub words_more : (i : ℕ) → i < s
       → take (i + 1) (block_words_of matrix) ≡ take i (block_words_of matrix) ++ get_or (block_words_of matrix) i 0 ∷ []
-  words_more i low = take_more (block_words_of matrix) i 0 (omega (arith, words_length, low))
+  words_more i low = take_more _ i 0 (omega (arith, words_length))
 
   pub words_whole : (i : ℕ) → s ≤ i → take i (block_words_of matrix) ≡ block_words_of matrix
   words_whole i past = take_all i (block_words_of matrix) (omega (arith, words_length))
@@ -70,39 +70,38 @@ module _ (matrix : MatrixView) (f : IsField matrix.shape.q)
       → is_constant_in_blocks (q matrix) (s matrix) (q matrix ^ matrix.shape.t) u (design_of matrix).rows ≡ true
       → is_constant (q matrix) u (design_of matrix).rows ≡ true
   constant_too u hu e =
-      let some : 0 < q matrix = omega (arith, f.more_than_one) in
-      let sum : List ℕ = combination (q matrix) m u (take (s matrix) rules) in
-      let no_rules : drop (s matrix) rules ≡ [] =
-      drop_of_length-le rules (omega (arith, length-map matrix.rows (λ r. digits (q matrix) m r), complete, none)) in
-      let factors = subst (λ (v : List (List ℕ)). IsVector (q matrix) m (combination (q matrix) m u v))
-      (sym (take-map (λ r. digits (q matrix) m r) (s matrix) matrix.rows))
-      (combination-vector (q matrix) m f u _ (are_vectors (q matrix) m (take (s matrix) matrix.rows) some)) in
+      let sum = combination (q matrix) m u (take (s matrix) rules) in
+      let no_rules =
+      drop_of_length-le rules (omega (arith, length-map matrix.rows (digits (q matrix) m))) in
+      let factors = subst (λ v. IsVector (q matrix) m (combination (q matrix) m u v))
+      (sym (take-map (digits (q matrix) m) (s matrix) matrix.rows))
+      (combination-vector _ m f u _ (are_vectors _ m (take (s matrix) matrix.rows) (omega arith))) in
       let spans =
-      in_span-true (q matrix) m f [] sum tt factors
+      in_span-true _ m f [] sum tt factors
       (subst (λ v. in_span (q matrix) m v sum ≡ true) no_rules
-      ((constant_in_span (q matrix) m (s matrix) matrix.shape.t f matrix.rows u complete hu).0 e)) in
-      (constant_sum (q matrix) f u m matrix.rows).1
-      (sym (front (q matrix) m (s matrix) u rules (let l : length u ≤ s matrix = omega (arith, hu.len) in l))
+      ((constant_in_span _ m _ matrix.shape.t f matrix.rows u complete hu).0 e)) in
+      (constant_sum _ f u m matrix.rows).1
+      (sym (front (q matrix) m (s matrix) u rules (let l : length u ≤ s matrix = omega arith in l))
       ∙ sym spans.gives ∙ of_nothing spans.by)
 
   none_blocked : (u : List ℕ) → IsVector (q matrix) (s matrix) u → is_blocked (design_of matrix) u ≡ false
   none_blocked u hu =
-      let inside : Bool =
+      let inside =
       is_constant_in_blocks (q matrix) (s matrix) (q matrix ^ matrix.shape.t) u (design_of matrix).rows in
       elim (cases_Bool inside) [
-        | inl constant ↦ ap (λ b. not b && inside) (constant_too u hu constant)
-        | inr moves ↦ and_right (not (is_constant (q matrix) u (design_of matrix).rows)) inside moves
+        | inl constant ↦ cc (constant_too u hu constant)
+        | inr moves ↦ and_right _ inside moves
       ]
 
   no_confounded : (k : ℕ) → ◌≡◌ {A = ℕ} (confounded matrix k) 0
   no_confounded k =
       let test : List ℕ → ℕ = λ u. cond (eqb (weight u) k && is_blocked (design_of matrix) u) 1 0 in
       sum_by-each test (λ u. 0) (points (q matrix) (s matrix))
-      (recursion_from_All _ (points (q matrix) (s matrix))
-      (all-points (q matrix) (s matrix) (omega (arith, f.more_than_one)) (λ u. test u ≡ 0)
+      (recursion_from_All _ _
+      (all-points (q matrix) (s matrix) (omega arith) (λ u. test u ≡ 0)
       (λ u hu. ap (λ b. cond b 1 0) (and_right (eqb (weight u) k) _ (none_blocked u hu)))))
       ∙ sum_by-zero (points (q matrix) (s matrix))
 
   pub no_entry : (i : ℕ) → i < s matrix → ◌≡◌ {A = ℕ} (get_or (block_words_of matrix) i 0) 0
   no_entry i low =
-      words_entry matrix i low ∙ ap (λ n. n / (q matrix - 1)) (no_confounded (i + 1)) ∙ zero-div (q matrix - 1)
+      cc (words_entry matrix i low, no_confounded (i + 1), zero-div (q matrix - 1))

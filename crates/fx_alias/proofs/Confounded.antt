@@ -1,13 +1,12 @@
 -- Which sums of the factor rules are those of words that are confounded with blocks.
 use Rattle.std.proofs.Common.{ℕ, ◌≡◌, ◌≤◌, ◌^◌, ◌∙◌, ◌&&◌, zero, suc, Bool, cond, eqb, List, [], ◌∷◌}
-use Rattle.std.proofs.Common.{length, take, refl, sym, ap, ap₂, arith, inl, inr}
+use Rattle.std.proofs.Common.{length, take, refl, sym, ap, arith, inl, inr}
 use Rattle.std.specs.Prelude.{nat_lt, not, count_by}
-use Rattle.std.specs.List.{sum_by}
 use Rattle.std.proofs.lemmas.Bool.{cases_Bool, both_ways, lt-ltb}
 use Rattle.std.proofs.lemmas.List.{take-map, length-map, length-take-le}
 use Rattle.std.proofs.lemmas.List.Elements.{recursion_from_All}
 use Rattle.fx_designs.specs.Galois.{IsField, digits, number}
-use Rattle.fx_designs.specs.Vectors.{IsVector, weight, combination, plus, scale, zeros, vectors_of}
+use Rattle.fx_designs.specs.Vectors.{IsVector, weight, combination, vectors_of}
 use Rattle.fx_designs.specs.Runs.{points, is_constant, runs_of}
 use Rattle.fx_laws.proofs.CanonicalTest.{rows-vectors}
 use Rattle.fx_laws.proofs.Codes.{number-below, number-zeros}
@@ -22,38 +21,37 @@ use Rattle.fx_alias.proofs.Counted.{is_counted, words_below}
 pub front : (q m n : ℕ) (u : List ℕ) (rules : List (List ℕ)) → length u ≤ n
     → combination q m u (take n rules) ≡ combination q m u rules
 front q m n [] rules few = refl
-front q m zero (a ∷ u) rules few = absurd (omega (arith, few))
+front q m zero (a ∷ u) rules few = absurd (omega arith)
 front q m (suc n) (a ∷ u) [] few = refl
 front q m (suc n) (a ∷ u) (r ∷ rules) few =
-    ap (plus q (scale q a r)) (front q m n u rules (let l : length u ≤ n = omega (arith, few) in l))
+    cc (front q m n u rules (let l : length u ≤ n = omega arith in l))
 
 module _ (q m s : ℕ) (f : IsField q) (rows : List ℕ) where
   abbrev sum : List ℕ → List ℕ
   sum u = combination q m u (vectors_of q m rows)
 
   vector : (u : List ℕ) → IsVector q m (sum u)
-  vector u = combination-vector q m f u (vectors_of q m rows) (rows-vectors q m f rows)
+  vector u = combination-vector q m f u _ (rows-vectors q m f rows)
 
   -- the factor rules give the same sum
   factors_sum : (u : List ℕ) → IsVector q s u → combination q m u (vectors_of q m (take s rows)) ≡ sum u
   factors_sum u hu =
-      ap (combination q m u) (sym (take-map (λ r. digits q m r) s rows))
-      ∙ front q m s u (vectors_of q m rows) (omega (arith, hu.len))
+      cc (take-map (digits q m) s rows, front q m s u (vectors_of q m rows) (omega arith))
 
   -- the number is above 0 where the vector is not constant over the runs
   some_number : (u : List ℕ) → nat_lt 0 (number q (sum u)) ≡ not (is_constant q u (runs_of q m (vectors_of q m rows)))
   some_number u =
-      let is : Bool = is_constant q u (runs_of q m (vectors_of q m rows)) in
+      let is = is_constant q u (runs_of q m (vectors_of q m rows)) in
       let both = constant_sum q f u m rows in
       elim (cases_Bool is) [
         | inl constant ↦
-            ap (nat_lt 0) (ap (number q) (both.0 constant) ∙ number-zeros q m) ∙ ap not (sym constant)
+            cc (both.0 constant, number-zeros q m)
         | inr moves ↦
             (let apart : number q (sum u) ≡ 0 → ⊥ =
             λ e. both_ways is moves
             (both.1
-            (number-same q m f (sum u) (zeros m) (vector u) (zeros-vector q m f) (e ∙ sym (number-zeros q m)))) in
-            lt-ltb 0 (number q (sum u)) (omega (arith, apart)))
+            (number-same q m f _ _ (vector u) (zeros-vector q m f) (e ∙ sym (number-zeros q m)))) in
+            lt-ltb 0 (number q (sum u)) (omega arith))
             ∙ ap not (sym moves)
       ]
 
@@ -69,11 +67,8 @@ module _ (q m s : ℕ) (f : IsField q) (rows : List ℕ) where
 
     alike : (k : ℕ) (u : List ℕ) → IsVector q s u → counted k u ≡ confounded k u
     alike k u hu =
-        let z : ℕ = number q (sum u) in
-        ap (λ v. cond (eqb (weight u) k && is_counted test (q ^ m) (number q v)) 1 0) (factors_sum u hu)
-        ∙ ap (λ b. cond (eqb (weight u) k && (nat_lt 0 z && (b && test z))) 1 0)
-        (lt-ltb z (q ^ m) (number-below q m (sum u) (vector u)))
-        ∙ ap₂ (λ a b. cond (eqb (weight u) k && (a && b)) 1 0) (some_number u) (sym (decides u hu))
+        let z = number q (sum u) in
+        cc (factors_sum u hu, lt-ltb z _ (number-below q m _ (vector u)), some_number u, decides u hu)
 
     -- all numbers of points count the words that are confounded
     pub all_below : s ≤ length rows → (k : ℕ)
@@ -81,9 +76,10 @@ module _ (q m s : ℕ) (f : IsField q) (rows : List ℕ) where
         ≡ count_by (λ u. eqb (weight u) k && (not (is_constant q u (runs_of q m (vectors_of q m rows))) && blocked u))
         (points q s)
     all_below enough k =
-        let count : length (vectors_of q m (take s rows)) ≡ s =
-        length-map (take s rows) (λ r. digits q m r) ∙ length-take-le s rows enough in
-        ap (λ n. sum_by (counted k) (points q n)) count
-        ∙ sum_by-each (counted k) (confounded k) (points q s)
-        (recursion_from_All _ (points q s)
-        (all-points q s (omega (arith, f.more_than_one)) (λ u. counted k u ≡ confounded k u) (alike k)))
+        cc (
+          (length-map (take s rows) (digits q m) ∙ length-take-le s rows enough),
+          sum_by-each (counted k)
+              (confounded k) (points q s)
+              (recursion_from_All _ _
+              (all-points q s (omega arith) (λ u. counted k u ≡ confounded k u) (alike k))),
+        )

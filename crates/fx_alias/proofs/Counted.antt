@@ -1,6 +1,6 @@
 -- Words counted by the numbers of their sums, one number more at a time.
-use Rattle.std.proofs.Common.{ℕ, ◌≡◌, ◌<◌, ◌≤◌, ◌+◌, ◌^◌, ◌∙◌, ◌&&◌, Bool, true, false, cond, eqb, List, length, refl}
-use Rattle.std.proofs.Common.{sym, subst, ap, arith, inl, inr}
+use Rattle.std.proofs.Common.{ℕ, ◌≡◌, ◌<◌, ◌+◌, ◌^◌, ◌∙◌, ◌&&◌, Bool, true, false, cond, eqb, List, length, refl}
+use Rattle.std.proofs.Common.{sym, ap, arith, inl, inr}
 use Rattle.std.specs.Prelude.{nat_lt, count_by}
 use Rattle.std.specs.List.{sum_by}
 use Rattle.std.proofs.lemmas.Bool.{cases_eq, cases_lt, eq-eqb, ne_eqb, lt-ltb, le-ltb}
@@ -45,9 +45,7 @@ module _ (test : ℕ → Bool) where
       → cond (w && is_counted test (x + 1) z) 1 0
       ≡ cond (w && is_counted test x z) 1 0 + cond (test x) (cond (eqb z x && w) 1 0) 0
   here w z x same some =
-      subst (λ t. cond (w && (nat_lt 0 z && (nat_lt z (x + 1) && t))) 1 0
-      ≡ cond (w && (nat_lt 0 z && (nat_lt z x && t))) 1 0 + cond (test x) (cond (eqb z x && w) 1 0) 0)
-      (ap test (sym same)) (no_more w (test x) z x same some)
+      rw (← (ap test (sym same))) (no_more w (test x) z x same some)
 
   -- another is counted as before
   elsewhere : (w : Bool) (z x : ℕ) → (z ≡ x → ⊥)
@@ -55,14 +53,14 @@ module _ (test : ℕ → Bool) where
       ≡ cond (w && is_counted test x z) 1 0 + cond (test x) (cond (eqb z x && w) 1 0) 0
   elsewhere w z x apart =
       let before : nat_lt z (x + 1) ≡ nat_lt z x = elim (cases_lt z x) [
-        | inl low ↦ lt-ltb z (x + 1) (omega arith) ∙ sym (lt-ltb z x low)
-        | inr high ↦ le-ltb z (x + 1) (omega (arith, high, apart)) ∙ sym (le-ltb z x high)
+        | inl low ↦ cc (lt-ltb z (x + 1) (omega arith), lt-ltb z x low)
+        | inr high ↦ cc (le-ltb z (x + 1) (omega arith), le-ltb z x high)
       ] in
       let none : ◌≡◌ {A = ℕ} (cond (test x) (cond (eqb z x && w) 1 0) 0) 0 =
-      subst (λ b. ◌≡◌ {A = ℕ} (cond (test x) (cond (b && w) 1 0) 0) 0) (sym (ne_eqb z x apart)) (none_at (test x) w) in
+      rw (ne_eqb z x apart) (none_at (test x) w) in
       let same : ◌≡◌ {A = ℕ} (cond (w && is_counted test (x + 1) z) 1 0) (cond (w && is_counted test x z) 1 0) =
-      ap (λ b. cond (w && (nat_lt 0 z && (b && test z))) 1 0) before in
-      omega (arith, same, none)
+      cc in
+      omega arith
 
 module _ (q m : ℕ) (rows : List (List ℕ)) (test : ℕ → Bool) (k : ℕ) where
   abbrev sum : List ℕ → ℕ
@@ -82,12 +80,15 @@ module _ (q m : ℕ) (rows : List (List ℕ)) (test : ℕ → Bool) (k : ℕ) wh
       let new : List ℕ → ℕ = λ u. cond (eqb (weight u) k && is_counted test (x + 1) (sum u)) 1 0 in
       let old : List ℕ → ℕ = λ u. cond (eqb (weight u) k && is_counted test x (sum u)) 1 0 in
       let more : List ℕ → ℕ = λ u. cond (test x) (cond (eqb (sum u) x && eqb (weight u) k) 1 0) 0 in
-      sum_by-ext new (λ u. old u + more u) (points q (length rows))
-      (λ u. elim (cases_eq (sum u) x) [
-        | inl same ↦ here test (eqb (weight u) k) (sum u) x same some
-        | inr apart ↦ elsewhere test (eqb (weight u) k) (sum u) x apart
-      ])
-      ∙ sum_by-plus old more (points q (length rows)) ∙ ap (λ n. words_below q m rows test k x + n) (at (test x) x)
+      cc (
+        sum_by-ext new (λ u. old u + more u) (points q (length rows))
+            (λ u. elim (cases_eq (sum u) x) [
+              | inl same ↦ here test _ _ x same some
+              | inr apart ↦ elsewhere test _ _ x apart
+            ]),
+        sum_by-plus old more (points q (length rows)),
+        at (test x) x,
+      )
 
   pub none_below : ◌≡◌ {A = ℕ} (words_below q m rows test k 1) 0
   none_below =
@@ -106,14 +107,20 @@ module _ (q m : ℕ) (rows : List (List ℕ)) (test : ℕ → Bool) (k : ℕ) wh
       none : (w : Bool) (z : ℕ) → ◌≡◌ {A = ℕ} (cond (w && is_counted test 1 z) 1 0) 0
       none w z = elim (cases_lt 0 z) [
         | inl some ↦
-            ap (λ b. cond (w && (nat_lt 0 z && (b && test z))) 1 0) (le-ltb z 1 (omega arith)) ∙ beyond w (nat_lt 0 z)
-            (test z)
-        | inr zero ↦ ap (λ b. cond (w && (b && (nat_lt z 1 && test z))) 1 0) (le-ltb 0 z (omega arith)) ∙ first w
-            (nat_lt z 1 && test z)
+            cc (
+              le-ltb z 1 (omega arith),
+              beyond w (nat_lt 0 z)
+                  (test z),
+            )
+        | inr zero ↦ cc (
+          le-ltb 0 z (omega arith),
+          first w
+              (nat_lt z 1 && test z),
+        )
       ]
 
   pub below_fits : (n : ℕ) → q ^ length rows < 2 ^ 127 → words_below q m rows test k n < 2 ^ 127
   below_fits n few =
-      let most : words_below q m rows test k n ≤ length (points q (length rows)) =
+      let most =
       count_by-le-length (λ u. eqb (weight u) k && is_counted test n (sum u)) (points q (length rows)) in
-      omega (arith, most, length-points q (length rows), few)
+      omega (arith, length-points q (length rows))

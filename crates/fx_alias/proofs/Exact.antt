@@ -17,11 +17,10 @@ bit b = cond b 1 0
 
 -- a vector's last nonzero entry is 0 where each is
 last_entry : (v : List ℕ) → (weight v ≡ 0 → last_nonzero v ≡ 0) × (0 < weight v → 0 < last_nonzero v)
-last_entry [] = (λ e. refl, λ h. absurd (omega (arith, h)))
+last_entry [] = (λ e. refl, λ h. absurd (omega arith))
 last_entry (a ∷ v) =
     let rest = last_entry v in
-    let more = sum_by-cons (λ c. bit (ltb 0 c)) a v in
-    step (weight v) (last_nonzero v) (weight (a ∷ v)) more rest.0 rest.1
+    step _ _ _ (sum_by-cons (λ c. bit (ltb 0 c)) a v) rest.0 rest.1
   where
     step : (w l t : ℕ) → t ≡ bit (ltb 0 a) + w → (w ≡ 0 → l ≡ 0) → (0 < w → 0 < l)
         → (t ≡ 0 → cond (eqb l 0) a l ≡ 0) × (0 < t → 0 < cond (eqb l 0) a l)
@@ -71,7 +70,7 @@ module _ (q a : ℕ) (u : List ℕ) where
       → longer (flat_map (λ v. map (λ c. c ∷ v) codes) vs) ≡ cond b (count vs) 0
   begun_by codes b vs e =
       sum_by_flat_map (λ v. bit (same v (a ∷ u))) (λ v. map (λ c. c ∷ v) codes) vs
-      ∙ sum_by-ext _ _ vs (λ v. begun codes v ∙ swapped (same v u) (count_by (λ c. eqb c a) codes) b e)
+      ∙ sum_by-ext _ _ vs (λ v. begun codes v ∙ swapped (same v u) _ b e)
       ∙ sum-cond b (λ v. bit (same v u)) vs
 
   -- which codes come before k further factors
@@ -85,22 +84,21 @@ module _ (q a : ℕ) (u : List ℕ) where
     where
       in_range : (b : Bool) → ltb 0 a ≡ b
           → count_by (λ c. eqb c a) (range_with_len 1 (q - 1)) ≡ bit b
-      in_range true is = sum_by-pick (λ c. 1) a 1 (q - 1) (grind (arith, nat_tests)) (omega (arith, low))
+      in_range true is = sum_by-pick (λ c. 1) a 1 (q - 1) (grind (arith, nat_tests)) (omega arith)
       in_range false is =
           sum_by-same (λ c. bit (eqb c a)) (λ c. 0) 1 (q - 1) (λ c from to. grind (arith, nat_tests))
           ∙ sum_by-zero (range_with_len 1 (q - 1))
 
       some : (k : ℕ) → 0 < k → bit (is_code k) ≡ bit (ltb 0 a)
-      some zero h = absurd (omega (arith, h))
+      some zero h = absurd (omega arith)
       some (suc k) h = refl
 
       by_test : (t : Bool) → list_any (λ b. b) later ≡ t
           → count_by (λ c. eqb c a) (codes_before q later) ≡ bit (is_code k)
       by_test true is =
-          let more : 0 < k = omega (arith, any_true later is, e) in
-          rw is (in_range (ltb 0 a) refl ∙ sym (some k more))
+          rw is (cc (in_range (ltb 0 a) refl, some k (omega (arith, any_true later is))))
       by_test false is =
-          let none : k ≡ 0 = omega (arith, none_true later is, e) in
+          let none : k ≡ 0 = omega (arith, none_true later is) in
           rw (is, none) (omega arith)
 
   abbrev all : List (List Bool) → List (List ℕ)
@@ -118,12 +116,16 @@ module _ (q a : ℕ) (u : List ℕ) where
   with : (k : ℕ) (sets : List (List Bool)) → a < q → AllByRecursion (λ set. trues set ≡ k) sets
       → longer (all (map (λ set. true ∷ set) sets)) ≡ cond (is_code k) (count (all sets)) 0
   with k sets low sized =
-      sum_by_flat_map (λ v. bit (same v (a ∷ u))) (normal_vectors q) (map (λ set. true ∷ set) sets)
-      ∙ sum_by_map (λ set. longer (normal_vectors q set)) (λ set. true ∷ set) sets
-      ∙ sum_by-each (λ set. longer (normal_vectors q (true ∷ set)))
-      (λ set. cond (is_code k) (count (normal_vectors q set)) 0) sets (each sets sized)
-      ∙ sum-cond (is_code k) (λ set. count (normal_vectors q set)) sets
-      ∙ sym (ap (λ n. cond (is_code k) n 0) (sum_by_flat_map (λ v. bit (same v u)) (normal_vectors q) sets))
+      cc (
+        sum_by_flat_map (λ v. bit (same v (a ∷ u))) (normal_vectors q) (map (λ set. true ∷ set) sets),
+        sum_by_map
+            (λ set. longer (normal_vectors q set)) (λ set. true ∷ set) sets,
+        sum_by-each _
+            _ sets (each sets sized),
+        sum-cond (is_code k) (λ set. count (normal_vectors q set)) sets,
+        sum_by_flat_map
+            (λ v. bit (same v u)) (normal_vectors q) sets,
+      )
     where
       each : (sets : List (List Bool)) → AllByRecursion (λ set. trues set ≡ k) sets
           → AllByRecursion (λ set. longer (normal_vectors q (true ∷ set))
@@ -154,35 +156,42 @@ module _ (q : ℕ) where
   of_size : (k s : ℕ) (u : List ℕ) → IsVector q s u
       → count_by (λ v. same v u) (flat_map (normal_vectors q) (supports k s))
       ≡ bit (is_of k (weight u) (last_nonzero u))
-  of_size k zero (a ∷ u) h = absurd (omega (arith, h.len))
-  of_size k (suc s) [] h = absurd (omega (arith, h.len))
+  of_size k zero (a ∷ u) h = absurd (omega arith)
+  of_size k (suc s) [] h = absurd (omega arith)
   of_size zero zero [] h = refl
   of_size (suc k) zero [] h = none k
     where
       none : (k : ℕ) → zero ≡ bit (is_of (suc k) 0 0)
       none k = grind (arith, nat_tests)
   of_size zero (suc s) (a ∷ u) h =
-      let hu : IsVector q s u = record { len = omega (arith, h.len); codes = h.codes.1 } in
       let last = last_entry u in
-      not_with q a u (supports zero s)
-      ∙ ap (λ n. cond (eqb 0 a) n 0) (of_size zero s u hu)
-      ∙ none_here a (weight u) (last_nonzero u) last.0 last.1
-      ∙ ap (λ w. bit (is_of 0 w (last_nonzero (a ∷ u)))) (sym (sum_by-cons (λ c. bit (ltb 0 c)) a u))
+      cc (
+        not_with q a u (supports zero s),
+        of_size zero s u (record { len = omega arith; codes = h.codes.1 }),
+        none_here a _ _ last.0 last.1,
+        sum_by-cons (λ c. bit (ltb 0 c)) a u,
+      )
   of_size (suc k) (suc s) (a ∷ u) h =
-      let hu : IsVector q s u = record { len = omega (arith, h.len); codes = h.codes.1 } in
+      let hu : IsVector q s u = record { len = omega arith; codes = h.codes.1 } in
       let last = last_entry u in
       let here = map (λ set. true ∷ set) (supports k s) in
       let others = map (λ set. false ∷ set) (supports (suc k) s) in
       let p : List ℕ → ℕ = λ v. bit (same v (a ∷ u)) in
-      sum_by_flat_map p (normal_vectors q) (here ++ others)
-      ∙ sum_by-append (λ set. sum_by p (normal_vectors q set)) here others
-      ∙ sym (ap₂ (λ (m n : ℕ). m + n) (sum_by_flat_map p (normal_vectors q) here)
-      (sum_by_flat_map p (normal_vectors q) others))
-      ∙ ap₂ (λ (m n : ℕ). m + n)
-      (with q a u k (supports k s) h.codes.0 (all_of k s) ∙ ap (λ n. cond (is_code q a u k) n 0) (of_size k s u hu))
-      (not_with q a u (supports (suc k) s) ∙ ap (λ n. cond (eqb 0 a) n 0) (of_size (suc k) s u hu))
-      ∙ by_size k (weight u) (last_nonzero u) last.0 last.1
-      ∙ ap (λ w. bit (is_of (suc k) w (last_nonzero (a ∷ u)))) (sym (sum_by-cons (λ c. bit (ltb 0 c)) a u))
+      cc (
+        sum_by_flat_map p (normal_vectors q) (here ++ others),
+        sum_by-append (λ set. sum_by p (normal_vectors q set))
+            here others,
+        sum_by_flat_map p (normal_vectors q) here,
+        sum_by_flat_map p (normal_vectors q) others,
+        with q a
+            u k (supports k s) h.codes.0 (all_of k s),
+        of_size k s u hu,
+        not_with q a u (supports (suc k) s),
+        of_size
+            (suc k) s u hu,
+        by_size k _ _ last.0 last.1,
+        sum_by-cons (λ c. bit (ltb 0 c)) a u,
+      )
     where
       by_size : (k w l : ℕ) → (w ≡ 0 → l ≡ 0) → (0 < w → 0 < l)
           → cond (is_code q a u k) (bit (is_of k w l)) 0 + cond (eqb 0 a) (bit (is_of (suc k) w l)) 0
@@ -196,16 +205,15 @@ module _ (q : ℕ) where
 
   pub exactly_once : (s d : ℕ) (u : List ℕ) → IsVector q s u
       → count_by (λ v. same v u) (components q s d) ≡ bit (is_normal u && nat_le (weight u) d)
-  exactly_once s zero u h = no_size (weight u) (last_nonzero u) (last_entry u).0
+  exactly_once s zero u h = no_size _ _ (last_entry u).0
     where
       no_size : (w l : ℕ) → (w ≡ 0 → l ≡ 0) → zero ≡ bit (eqb l 1 && nat_le w 0)
       no_size w l none = grind (arith, nat_tests)
   exactly_once s (suc d) u h =
       let one : suc d ≡ d + 1 = omega arith in
-      let size = flat_map (normal_vectors q) (supports (d + 1) s) in
       ap (λ n. count_by (λ v. same v u) (components q s n)) one
       ∙ ap (count_by (λ v. same v u)) (sym (next_weight q s d))
-      ∙ sum_by-append (λ v. bit (same v u)) (components q s d) size
-      ∙ ap₂ (λ (m n : ℕ). m + n) (exactly_once s d u h) (of_size (d + 1) s u h)
-      ∙ one_size_more d (weight u) (last_nonzero u) (last_entry u).0
+      ∙ sum_by-append (λ v. bit (same v u)) (components q s d) (flat_map (normal_vectors q) (supports (d + 1) s))
+      ∙ ap₂ (λ m n. m + n) (exactly_once s d u h) (of_size (d + 1) s u h)
+      ∙ one_size_more d _ _ (last_entry u).0
       ∙ ap (λ n. bit (is_normal u && nat_le (weight u) n)) (sym one)

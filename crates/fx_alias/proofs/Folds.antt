@@ -6,6 +6,6 @@ use Rattle.fx_settings.specs.declared.settings.Blocks.TheVariants as blocks
 
 pub unblocked : (given : Blocks) → has_blocks given ≡ false → given ≡ blocks.Without
 unblocked blocks.Without e = refl
-unblocked (blocks.Factors t) e = absurd (cc e)
-unblocked (blocks.PerBlock k) e = absurd (cc e)
-unblocked blocks.Most e = absurd (cc e)
+unblocked (blocks.Factors t) e = cc e
+unblocked (blocks.PerBlock k) e = cc e
+unblocked blocks.Most e = cc e

@@ -1,5 +1,5 @@
 -- The lines of a head by the matrix of an outcome.
-use Rattle.std.proofs.Common.{ℕ, ◌≡◌, ◌<◌, ◌++◌, List, [], length, Option, Some, None, append-nil, sym, ap, lt-ltb}
+use Rattle.std.proofs.Common.{ℕ, ◌≡◌, ◌<◌, ◌++◌, List, [], length, Option, Some, None, append-nil, sym, lt-ltb}
 use Rattle.std.specs.Prelude.{codes}
 use Rattle.std.proofs.lemmas.Bool.{cond-true}
 use Rattle.fx_designs.specs.Patterns.{resolution_of}
@@ -15,7 +15,7 @@ use Rattle.fx_alias.specs.Heads.{resolution_line}
 -- no weight has a word
 pub no-words : (claim : List ℕ) (a : List ℕ) → length a < resolution_of a
     → codes "no defining words\n" ≡ resolution_line claim a
-no-words claim a h = sym (cond-true _ (codes "no defining words\n") _ (lt-ltb (length a) (resolution_of a) h))
+no-words claim a h = sym (cond-true _ (codes "no defining words\n") _ (lt-ltb _ _ h))
 
 -- the lines of a search that ended with a design
 pub design-lines : (step : Meaning) (shape : Shape) (reached : ℕ) (matrix : Option MatrixView) (n : ℕ)
@@ -23,7 +23,7 @@ pub design-lines : (step : Meaning) (shape : Shape) (reached : ℕ) (matrix : Op
     → matrix_lines [] (resolution_claim step) (clear_line step (codes " highest") reached) matrix ++ nodes_line n
     ≡ outcome_lines step (dimensions_of shape) reached (Design (rows_of matrix) n)
 design-lines step shape reached matrix n h =
-    ap (λ o. matrix_lines [] (resolution_claim step) (clear_line step (codes " highest") reached) o ++ nodes_line n) h.0
+    cc
 
 -- the lines of a budget that ended
 pub budget-lines : (step : Meaning) (shape : Shape) (reached : ℕ) (matrix : Option MatrixView) (n : ℕ)
@@ -32,4 +32,4 @@ pub budget-lines : (step : Meaning) (shape : Shape) (reached : ℕ) (matrix : Op
     ≡ outcome_lines step (dimensions_of shape) reached (BudgetEnded (rows_if matrix) n)
 budget-lines step shape reached None n h = append-nil (budget_line n)
 budget-lines step shape reached (Some matrix) n h =
-    ap (λ o. budget_line n ++ matrix_lines (codes " not proved best") [] (clear_line step [] reached) o) h.0
+    cc

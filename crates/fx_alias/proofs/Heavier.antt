@@ -8,7 +8,7 @@ use Rattle.fx_designs.specs.Patterns.{pattern_of}
 use Rattle.fx_designs.specs.Problems.{Dimensions}
 use Rattle.fx_designs.specs.Vectors.{vectors_of}
 use Rattle.fx_points.proofs.Halves.{power-some}
-use Rattle.fx_words.specs.Spreads.{spread, so_far}
+use Rattle.fx_words.specs.Spreads.{spread}
 use Rattle.fx_words.proofs.Entries.{entry}
 use Rattle.fx_words.proofs.Levels.{so_far-all, so_far-zero}
 
@@ -17,18 +17,21 @@ pub heavier : (d : Dimensions) → IsField d.q → (rows : List ℕ) (k x : ℕ)
     → get_or (pattern_of d (rows ++ x ∷ [])) k 0
     ≡ get_or (pattern_of d rows) k 0 + spread d.q d.m (vectors_of d.q d.m rows) k x
 heavier d f rows k x room low below =
-    let q : ℕ = d.q in
-    let m : ℕ = d.m in
+    let q = d.q in
+    let m = d.m in
     let own : ℕ = spread q m (vectors_of q m rows) (k + 1) 0 in
     let sums : ℕ = spread q m (vectors_of q m rows) k x in
     let one : 1 < q = f.more_than_one in
-    let last : q ≡ q - 1 + 1 = omega (arith, one) in
+    let last : q ≡ q - 1 + 1 = omega arith in
     let lighter : k + 1 - 1 ≡ k = omega arith in
     let more : spread q m (vectors_of q m (rows ++ x ∷ [])) (k + 1) 0 ≡ own + (q - 1) * sums =
-    sym (so_far-all q m f rows x (k + 1) 0 (power-some q m (omega (arith, one))))
-    ∙ ap (λ c. so_far q m rows x (k + 1) 0 c) last
-    ∙ so_far-zero q m f rows x (k + 1) (q - 1) (omega arith) (omega (arith, one)) below
-    ∙ ap (λ w. own + (q - 1) * spread q m (vectors_of q m rows) w x) lighter in
+    cc (
+      so_far-all q m f rows x (k + 1) 0 (power-some q m (omega arith)),
+      last,
+      so_far-zero q m f rows x (k + 1) (q - 1)
+          (omega arith) (omega arith) below,
+      lighter,
+    ) in
     entry d f (rows ++ x ∷ []) k (omega (arith, length_push rows x, room)) low
     ∙ ap (λ n. n / (q - 1)) more
     ∙ add-mul-div_left own sums (omega (arith, one))

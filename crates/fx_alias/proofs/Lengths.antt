@@ -1,6 +1,6 @@
 -- How many components are listed.
 use Rattle.std.proofs.Common.{rules, ℕ, zero, suc, ◌≡◌, ◌<◌, ◌+◌, ◌-◌, ◌*◌, ◌^◌, Bool, true, false, cond, List, [], ◌∷◌}
-use Rattle.std.proofs.Common.{◌++◌, length, map, refl, sym, ◌∙◌, ap, ap₂, arith, length-append, pow-suc, mul-one}
+use Rattle.std.proofs.Common.{◌++◌, length, map, refl, sym, ◌∙◌, ap₂, arith, length-append, pow-suc, mul-one}
 use Rattle.std.proofs.Math.Nat.{pow-zero}
 use Rattle.std.specs.List.{flat_map, list_any, range_with_len, AllByRecursion}
 use Rattle.std.proofs.lemmas.List.{length-map, append-nil}
@@ -31,69 +31,77 @@ none_true (false ∷ b) e = none_true b e
 
 length-codes : (q : ℕ) (later : List Bool) (t : Bool) → list_any (λ x. x) later ≡ t
     → length (codes_before q later) ≡ cond t (q - 1) 1
-length-codes q later true e = rw e (length-range_with_len 1 (q - 1))
-length-codes q later false e = rw e refl
+length-codes q later true e = rw e (length-range_with_len 1 _)
+length-codes q later false e = rw e
 
 times_codes : (q : ℕ) (b : List Bool) (n : ℕ) → n ≡ (q - 1) ^ (trues b - 1) → (t : Bool) → list_any (λ x. x) b ≡ t
     → n * length (codes_before q b) ≡ (q - 1) ^ (suc (trues b) - 1)
 times_codes q b n is true e =
-    let some : 0 < trues b = any_true b e in
-    let first : suc (trues b) - 1 ≡ suc (trues b - 1) = omega arith in
-    ap₂ (λ (x y : ℕ). x * y) is (length-codes q b true e) ∙ rw (first, pow-suc) refl
+    let first : suc (trues b) - 1 ≡ suc (trues b - 1) = omega (arith, any_true b e) in
+    ap₂ (λ x y. x * y) is (length-codes q b true e) ∙ rw (first, pow-suc)
 times_codes q b n is false e =
-    let none : trues b ≡ 0 = none_true b e in
-    ap₂ (λ (x y : ℕ). x * y) is (length-codes q b false e) ∙ rw none (mul-one ((q - 1) ^ 0))
+    ap₂ (λ x y. x * y) is (length-codes q b false e) ∙ rw (none_true b e) (mul-one _)
 
 length-normal : (q : ℕ) (b : List Bool) → length (normal_vectors q b) ≡ (q - 1) ^ (trues b - 1)
 length-normal q [] = sym (pow-zero (q - 1))
 length-normal q (false ∷ b) = length-map (normal_vectors q b) (λ v. 0 ∷ v) ∙ length-normal q b
 length-normal q (true ∷ b) =
-    length-flat_map (λ v. map (λ c. c ∷ v) (codes_before q b)) (normal_vectors q b)
-    ∙ sum_by_equal (λ v. length (map (λ c. c ∷ v) (codes_before q b))) (length (codes_before q b)) (normal_vectors q b)
-    (each-all (λ v. length (map (λ c. c ∷ v) (codes_before q b)) ≡ length (codes_before q b)) (normal_vectors q b)
-    (λ v. length-map (codes_before q b) (λ c. c ∷ v)))
-    ∙ times_codes q b (length (normal_vectors q b)) (length-normal q b) (list_any (λ x. x) b) refl
+    cc (
+      length-flat_map (λ v. map (λ c. c ∷ v) (codes_before q b)) (normal_vectors q b),
+      sum_by_equal _ _ _
+          (each-all (λ v. length (map (λ c. c ∷ v) (codes_before q b)) ≡ length (codes_before q b)) (normal_vectors q b)
+          (λ v. length-map (codes_before q b) (λ c. c ∷ v))),
+      times_codes q b _ (length-normal q b) (list_any (λ x. x) b)
+          refl,
+    )
 
 length-supports : (k s : ℕ) → length (supports k s) ≡ choose s k
 length-supports zero zero = refl
 length-supports (suc k) zero = refl
-length-supports zero (suc s) = length-map (supports zero s) (λ set. false ∷ set) ∙ length-supports zero s ∙ one s
+length-supports zero (suc s) = cc (length-map (supports zero s) (λ set. false ∷ set), length-supports zero s, one s)
   where
     one : (s : ℕ) → choose s 0 ≡ 1
     one zero = refl
     one (suc s) = refl
 length-supports (suc k) (suc s) =
-    length-append (map (λ set. true ∷ set) (supports k s)) (map (λ set. false ∷ set) (supports (suc k) s))
-    ∙ ap₂ (λ (a b : ℕ). a + b) (length-map (supports k s) (λ set. true ∷ set) ∙ length-supports k s)
-    (length-map (supports (suc k) s) (λ set. false ∷ set) ∙ length-supports (suc k) s)
+    cc (
+      length-append (map (λ set. true ∷ set) (supports k s)) (map (λ set. false ∷ set) (supports (suc k) s)),
+      length-map (supports k s) (λ set. true ∷ set),
+      length-supports k s,
+      length-map (supports (suc k) s)
+          (λ set. false ∷ set),
+      length-supports (suc k) s,
+    )
 
 less : {X : Type 0} (g : X → ℕ) (n : ℕ) (xs : List X) → AllByRecursion (λ x. g x ≡ n) xs
     → AllByRecursion (λ x. suc (g x) ≡ suc n) xs
 less g n [] h = tt
-less g n (x ∷ xs) h = (ap suc h.0, less g n xs h.1)
+less g n (x ∷ xs) h = (cc, less g n xs h.1)
 
 -- a set of k factors has k of them
 pub all_of : (k s : ℕ) → AllByRecursion (λ b. trues b ≡ k) (supports k s)
 all_of zero zero = (refl, tt)
 all_of (suc k) zero = tt
-all_of zero (suc s) = each-map (λ b. trues b ≡ 0) (λ set. false ∷ set) (supports zero s) (all_of zero s)
+all_of zero (suc s) = each-map _ _ _ (all_of zero s)
 all_of (suc k) (suc s) =
-    each-append (λ b. trues b ≡ suc k) (map (λ set. true ∷ set) (supports k s))
-    (map (λ set. false ∷ set) (supports (suc k) s))
-    (each-map (λ b. trues b ≡ suc k) (λ set. true ∷ set) (supports k s) (less trues k (supports k s) (all_of k s)))
-    (each-map (λ b. trues b ≡ suc k) (λ set. false ∷ set) (supports (suc k) s) (all_of (suc k) s))
+    each-append _ _
+    _
+    (each-map _ _ _ (less trues k _ (all_of k s)))
+    (each-map _ _ _ (all_of (suc k) s))
 
 lengths_of : (q k : ℕ) (sets : List (List Bool)) → AllByRecursion (λ b. trues b ≡ k) sets
     → AllByRecursion (λ b. length (normal_vectors q b) ≡ (q - 1) ^ (k - 1)) sets
 lengths_of q k [] h = tt
-lengths_of q k (b ∷ sets) h = (length-normal q b ∙ ap (λ (n : ℕ). (q - 1) ^ (n - 1)) h.0, lengths_of q k sets h.1)
+lengths_of q k (b ∷ sets) h = (cc (length-normal q b), lengths_of q k sets h.1)
 
 length-of : (q s k : ℕ) → length (flat_map (normal_vectors q) (supports k s)) ≡ component_count q s k
 length-of q s k =
-    length-flat_map (normal_vectors q) (supports k s)
-    ∙ sum_by_equal (λ b. length (normal_vectors q b)) ((q - 1) ^ (k - 1)) (supports k s)
-    (lengths_of q k (supports k s) (all_of k s))
-    ∙ ap (λ (n : ℕ). n * (q - 1) ^ (k - 1)) (length-supports k s)
+    cc (
+      length-flat_map (normal_vectors q) (supports k s),
+      sum_by_equal _ _ _
+          (lengths_of q k _ (all_of k s)),
+      length-supports k s,
+    )
 
 -- as many as the rule on listings counts
 pub length-components : (q s d : ℕ) → length (components q s d) ≡ listed_count q s d
@@ -101,10 +109,13 @@ length-components q s zero = refl
 length-components q s (suc d) =
     let of = λ (k : ℕ). flat_map (normal_vectors q) (supports (k + 1) s) in
     let e : suc d ≡ d + 1 = omega arith in
-    ap (λ (n : ℕ). length (flat_map of (range_with_len 0 n))) e
-    ∙ ap (λ (l : List ℕ). length (flat_map of l))
-    (range_push 0 d d (omega arith))
-    ∙ ap length (flat_map-append of (range_with_len 0 d) (d ∷ []))
-    ∙ length-append (flat_map of (range_with_len 0 d)) (of d ++ [])
-    ∙ ap₂ (λ (a b : ℕ). a + b) (length-components q s d)
-    (ap length (append-nil (of d)) ∙ length-of q s (d + 1) ∙ ap (component_count q s) (sym e))
+    cc (
+      range_push 0 d d (omega arith),
+      flat_map-append of (range_with_len 0 d) (d ∷ []),
+      length-append
+          (flat_map of (range_with_len 0 d)) (of d ++ []),
+      length-components q s d,
+      append-nil (of d),
+      length-of q s
+          (d + 1),
+    )

@@ -1,6 +1,6 @@
 -- Places in classes, and the lines of classes.
 use Rattle.std.proofs.Common.{ℕ, ◌≡◌, ◌<◌, Bool, true, false, cond, List, [], ◌∷◌, ◌++◌, ◌+◌, length, map, filter, take}
-use Rattle.std.proofs.Common.{get_or, refl, sym, ◌∙◌, ap, append_assoc, append-nil}
+use Rattle.std.proofs.Common.{get_or, refl, sym, append_assoc, append-nil}
 use Rattle.std.specs.List.{flat_map}
 use Rattle.std.proofs.lemmas.List.{map-append, take_more}
 use Rattle.std.proofs.lemmas.List.Elements.{filter-append}
@@ -13,13 +13,13 @@ pub next_line : (line : List (List ℕ) → List ℕ) (at : List ℕ → List (L
     → done ≡ start ++ flat_map line (map at before) → cond b [] (group ∷ []) ≡ more
     → now ≡ done ++ line (at class) → now ≡ start ++ flat_map line (map at (before ++ more))
 next_line line at start done now before more b group class none this e1 is e2 =
-    e2 ∙ ap (λ (l : List ℕ). l ++ line (at class)) e1 ∙ append_assoc start (flat_map line (map at before))
-    (line (at class))
-    ∙ ap (λ (l : List ℕ). start ++ l)
-    (ap (λ (l : List ℕ). flat_map line (map at before) ++ l)
-    (ap (λ (l : List ℕ). line (at l)) this ∙ by_test b ∙ ap (λ (l : List (List ℕ)). flat_map line (map at l)) is)
-    ∙ sym (flat_map-append line (map at before) (map at more))
-    ∙ ap (flat_map line) (sym (map-append at before more)))
+    cc (
+      append_assoc start (flat_map line (map at before))
+          (line (at class)),
+      by_test b,
+      flat_map-append line (map at before) (map at more),
+      map-append at before more,
+    )
   where
     by_test : (b : Bool) → line (at (cond b [] group)) ≡ flat_map line (map at (cond b [] (group ∷ [])))
     by_test true = none
@@ -31,13 +31,14 @@ pub next_kept : {X : Type 0} (line : X → List ℕ) (p : X → Bool) (xs : List
     → done ≡ start ++ flat_map line (filter p (take i xs)) → now ≡ done ++ cond (p x) (line x) []
     → now ≡ start ++ flat_map line (filter p (take (i + 1) xs))
 next_kept {X} line p xs i x start done now low is e1 e2 =
-    e2 ∙ ap (λ (l : List ℕ). l ++ cond (p x) (line x) []) e1 ∙ append_assoc start (flat_map line (filter p (take i xs)))
-    (cond (p x) (line x) [])
-    ∙ ap (λ (l : List ℕ). start ++ l)
-    (ap (λ (l : List ℕ). flat_map line (filter p (take i xs)) ++ l) (by_test (p x))
-    ∙ sym (flat_map-append line (filter p (take i xs)) (cond (p x) (x ∷ []) []))
-    ∙ ap (flat_map line) (sym (filter-append p (take i xs) (x ∷ []))
-    ∙ ap (filter p) (ap (λ (y : X). take i xs ++ y ∷ []) (sym is) ∙ sym (take_more xs i x low))))
+    cc (
+      append_assoc start (flat_map line (filter p (take i xs)))
+          (cond (p x) (line x) []),
+      by_test (p x),
+      flat_map-append line (filter p (take i xs)) (cond (p x) (x ∷ []) []),
+      filter-append p (take i xs) (x ∷ []),
+      take_more xs i x low,
+    )
   where
     by_test : (b : Bool) → cond b (line x) [] ≡ flat_map line (cond b (x ∷ []) [])
     by_test true = sym (append-nil (line x))

@@ -30,17 +30,16 @@ module _ (q : ℕ) (f : IsField q) where
       → combination q m (minus q u (scale q c v)) rows
       ≡ minus q (combination q m u rows) (scale q c (combination q m v rows))
   sum-minus m c u v rows h =
-      let hu = combination-vector q m f u rows h in
-      let hv = combination-vector q m f v rows h in
       ext q m f _ _ (combination-vector q m f (minus q u (scale q c v)) rows h)
-      (plus-vector q m f _ _ hu (scale-vector q m f (neg q 1) _ (scale-vector q m f c _ hv)))
+      (plus-vector q m f _ _ (combination-vector q m f u rows h)
+      (scale-vector q m f (neg q 1) _ (scale-vector q m f c _ (combination-vector q m f v rows h))))
       (λ p. sym (dot-levels q f m (minus q u (scale q c v)) rows p)
       ∙ dot-plus q f u (scale q (neg q 1) (scale q c v)) (levels_at q rows p)
       ∙ ap (add q (dot q u (levels_at q rows p)))
       (dot-scale q f (neg q 1) (scale q c v) (levels_at q rows p) ∙ ap (mul q (neg q 1))
       (dot-scale q f c v (levels_at q rows p)))
-      ∙ ap₂ (λ (a b : ℕ). add q a (mul q (neg q 1) (mul q c b))) (dot-levels q f m u rows p) (dot-levels q f m v rows p)
-      ∙ ap (λ (b : ℕ). add q (dot q (combination q m u rows) p) (mul q (neg q 1) b))
+      ∙ ap₂ (λ a b. add q a (mul q (neg q 1) (mul q c b))) (dot-levels q f m u rows p) (dot-levels q f m v rows p)
+      ∙ ap (λ b. add q (dot q (combination q m u rows) p) (mul q (neg q 1) b))
       (sym (dot-scale q f c (combination q m v rows) p))
       ∙ ap (add q (dot q (combination q m u rows) p))
       (sym (dot-scale q f (neg q 1) (scale q c (combination q m v rows)) p))
@@ -67,11 +66,11 @@ module _ (q : ℕ) (f : IsField q) where
     constant_multiple c =
         let both = constant_sum q f (minus q u (scale q c v)) m numbers in
         let split = sum-minus m c u v rows (rows-vectors q m f numbers) in
-        let hc : IsVector q m (scale q c t) = scale-vector q m f c t ht in
-        let none = negated_twice q f m (scale q c t) hc in (
-          λ e. cancelled q f m s (scale q c t) (scale q (neg q 1) (scale q c t)) hs hc
+        let hc = scale-vector q m f c t ht in
+        let none = negated_twice q f m _ hc in (
+          λ e. cancelled q f m s _ _ hs hc
               (scale-vector q m f (neg q 1) _ hc) (sym split ∙ both.0 e ∙ sym none),
-          λ e. both.1 (split ∙ ap (λ (x : List ℕ). minus q x (scale q c t)) e ∙ none),
+          λ e. both.1 (split ∙ ap (λ x. minus q x (scale q c t)) e ∙ none),
         )
 
     -- aliased are those whose sums are multiples
@@ -80,19 +79,19 @@ module _ (q : ℕ) (f : IsField q) where
     aliased_multiple =
         let test : ℕ → Bool = λ c. is_constant q (minus q u (scale q c v)) (runs_of q m rows) in (
           λ e. let found =
-              some_item test (λ c. (0 < c) × (c < q)) (range_with_len 1 (q - 1))
-              (range_codes 1 (q - 1) (omega arith) (omega (arith, f.more_than_one))) e in
+              some_item test _ _
+              (range_codes 1 (q - 1) (omega arith) (omega arith)) e in
               record {
                 factor = found.0;
                 nonzero = found.1.0;
                 code = found.1.1;
                 is = (constant_multiple found.0).0 found.2;
               },
-          λ h. list_any_at test (range_with_len 1 (q - 1)) (h.factor - 1) 0
-              (omega (arith, length-range_with_len 1 (q - 1), h.nonzero, h.code))
-              (subst (λ (c : ℕ). test c ≡ true)
-              (sym (get_or-range_with_len 1 (q - 1) (h.factor - 1) 0 (omega (arith, h.nonzero, h.code)) ∙ omega
-              (arith, h.nonzero))) ((constant_multiple h.factor).1 h.is)),
+          λ h. list_any_at test _ (h.factor - 1) 0
+              (omega (arith, length-range_with_len 1 (q - 1)))
+              (subst (λ c. test c ≡ true)
+              (sym (get_or-range_with_len 1 (q - 1) (h.factor - 1) 0 (omega arith) ∙ omega
+              arith)) ((constant_multiple h.factor).1 h.is)),
         )
       where
         range_codes : (a n : ℕ) → 0 < a → a + n ≤ q → AllByRecursion (λ c. (0 < c) × (c < q)) (range_with_len a n)
@@ -102,18 +101,18 @@ module _ (q : ℕ) (f : IsField q) where
 module _ (q : ℕ) (f : IsField q) where
   scale-scale : (c d : ℕ) (v : List ℕ) → scale q c (scale q d v) ≡ scale q (mul q c d) v
   scale-scale c d [] = refl
-  scale-scale c d (a ∷ v) = ap₂ (λ (x : ℕ) (w : List ℕ). x ∷ w) (sym (f.mul_assoc c d a)) (scale-scale c d v)
+  scale-scale c d (a ∷ v) = cc (f.mul_assoc c d a, scale-scale c d v)
 
   product-some : (a b : ℕ) → 0 < a → a < q → 0 < b → b < q → 0 < mul q a b
-  product-some a b a1 aq b1 bq = ltb-true 0 (mul q a b) (mul-positive q f a b a1 aq bq ∙ lt-ltb 0 b b1)
+  product-some a b a1 aq b1 bq = ltb-true 0 _ (mul-positive q f a b a1 aq bq ∙ lt-ltb 0 b b1)
 
   number-some : (v : List ℕ) → 0 < last_nonzero v → 0 < number q v
   number-some [] h = h
   number-some (a ∷ v) h =
       elim (cases_eq (last_nonzero v) 0) [
-        | inl e ↦ let first : last_nonzero (a ∷ v) ≡ a = rw (eq-eqb (last_nonzero v) 0 e) refl in omega arith
+        | inl e ↦ let first : last_nonzero (a ∷ v) ≡ a = rw (eq-eqb _ 0 e) in omega arith
         | inr ne ↦
-            let more : 0 < number q v = number-some v (omega arith) in
+            let more = number-some v (omega arith) in
             let positive : 0 < q * number q v = mul-pos (omega (arith, f.more_than_one)) more in omega arith
       ]
 
@@ -123,61 +122,60 @@ module _ (q : ℕ) (f : IsField q) where
     multiple_of_one_number : class_number q s ≡ class_number q t → IsMultiple q s t
     unfolding class_number
     multiple_of_one_number e =
-        let a1 = inv-positive q f (last_nonzero s) ns (last-code q f s hs.codes) in
-        let b1 = inv-positive q f (last_nonzero t) nt (last-code q f t ht.codes) in
+        let a1 = inv-positive q f _ ns (last-code q f s hs.codes) in
         let same : scale q (inv q (last_nonzero s)) s ≡ scale q (inv q (last_nonzero t)) t =
         sym (digits-number q m _ (scale-vector q m f (inv q (last_nonzero s)) s hs)) ∙ ap (digits q m) e ∙ digits-number
         q m _ (scale-vector q m f (inv q (last_nonzero t)) t ht) in
-        let back : ℕ = inv q (inv q (last_nonzero s)) in
+        let back = inv q (inv q (last_nonzero s)) in
         record {
           factor = mul q back (inv q (last_nonzero t));
-          nonzero = product-some back (inv q (last_nonzero t))
-              (inv-positive q f (inv q (last_nonzero s)) a1 (f.inv_code (last_nonzero s)))
-              (f.inv_code (inv q (last_nonzero s))) b1 (f.inv_code (last_nonzero t));
+          nonzero = product-some back _
+              (inv-positive q f _ a1 (f.inv_code (last_nonzero s)))
+              (f.inv_code (inv q (last_nonzero s))) (inv-positive q f _ nt (last-code q f t ht.codes))
+              (f.inv_code (last_nonzero t));
           code = f.mul_code back (inv q (last_nonzero t));
-          is = sym (scale-one q m f s hs) ∙ ap (λ (x : ℕ). scale q x s)
-              (sym (inv-mul q f (inv q (last_nonzero s)) a1 (f.inv_code (last_nonzero s))))
-              ∙ sym (scale-scale back (inv q (last_nonzero s)) s) ∙ ap (scale q back) same ∙ scale-scale back
-              (inv q (last_nonzero t)) t;
+          is = cc (
+            scale-one q m f s hs,
+            inv-mul q f _ a1 (f.inv_code (last_nonzero s)),
+            scale-scale back
+                (inv q (last_nonzero s)) s,
+            scale-scale back
+                (inv q (last_nonzero t)) t,
+          );
         }
 
     -- multiples have one number
     number_of_multiples : IsMultiple q s t → class_number q s ≡ class_number q t
     unfolding class_number
     number_of_multiples h =
-        let x : ℕ = inv q (last_nonzero s) in
-        let y : ℕ = inv q (last_nonzero t) in
-        let x1 = inv-positive q f (last_nonzero s) ns (last-code q f s hs.codes) in
-        let y1 = inv-positive q f (last_nonzero t) nt (last-code q f t ht.codes) in
-        let moved : scale q x s ≡ scale q (mul q x h.factor) t = ap (scale q x) h.is ∙ scale-scale x h.factor t in
-        let one : last_nonzero (scale q (mul q x h.factor) t) ≡ 1 =
-        ap last_nonzero (sym moved) ∙ normal-scale q f s hs.codes ns in
-        let same : mul q x h.factor ≡ y =
-        one-normal q f t (mul q x h.factor) y ht.codes
-        (product-some x h.factor x1 (f.inv_code (last_nonzero s)) h.nonzero h.code) (f.mul_code x h.factor) y1
-        (f.inv_code (last_nonzero t)) one (normal-scale q f t ht.codes nt) in
-        ap (number q) (moved ∙ ap (λ (z : ℕ). scale q z t) same)
+        let x = inv q (last_nonzero s) in
+        let moved : scale q x s ≡ scale q (mul q x h.factor) t = cc (scale-scale x h.factor t) in
+        cc (one-normal q f t _ (inv q (last_nonzero t)) ht.codes
+        (product-some x h.factor (inv-positive q f _ ns (last-code q f s hs.codes)) (f.inv_code (last_nonzero s))
+        h.nonzero h.code) (f.mul_code x h.factor) (inv-positive q f _ nt (last-code q f t ht.codes))
+        (f.inv_code (last_nonzero t)) (ap last_nonzero (sym moved) ∙ normal-scale q f s hs.codes ns)
+        (normal-scale q f t ht.codes nt))
 
     -- so a test of numbers tells multiples
     pub numbers_tell : (test : Bool) → (test ≡ true) ↔ IsMultiple q s t
         → test ≡ eqb (class_number q s) (class_number q t)
     numbers_tell test both =
-        bool_same test (eqb (class_number q s) (class_number q t)) (λ e. eq-eqb _ _ (number_of_multiples (both.0 e)))
+        bool_same test _ (λ e. eq-eqb _ _ (number_of_multiples (both.0 e)))
         (λ e. both.1 (multiple_of_one_number (eqb-true _ _ e)))
 
   -- a vector that is not zero has no class number 0, and zeros have it
   pub some_number : (m : ℕ) (s : List ℕ) → IsVector q m s → 0 < last_nonzero s → 0 < class_number q s
   unfolding class_number
   some_number m s h some =
-      number-some (scale q (inv q (last_nonzero s)) s) (omega (arith, normal-scale q f s h.codes some))
+      number-some _ (omega (arith, normal-scale q f s h.codes some))
 
   scale-zeros : (c n : ℕ) → scale q c (zeros n) ≡ zeros n
   scale-zeros c zero = refl
-  scale-zeros c (suc n) = ap₂ (λ (x : ℕ) (w : List ℕ). x ∷ w) (f.mul_zero c) (scale-zeros c n)
+  scale-zeros c (suc n) = cc (f.mul_zero c, scale-zeros c n)
 
   pub zero_number : (m : ℕ) → class_number q (zeros m) ≡ 0
   unfolding class_number
-  zero_number m = ap (number q) (scale-zeros (inv q (last_nonzero (zeros m))) m) ∙ number-zeros q m
+  zero_number m = cc (scale-zeros (inv q (last_nonzero (zeros m))) m, number-zeros q m)
 
   -- a vector without a last nonzero code is zeros
   pub none_zero : (m : ℕ) (s : List ℕ) → IsVector q m s → last_nonzero s ≡ 0 → s ≡ zeros m
@@ -187,21 +185,20 @@ module _ (q : ℕ) (f : IsField q) where
   none_zero (suc m) (a ∷ s) h e =
       elim (cases_eq (last_nonzero s) 0) [
         | inl z ↦
-            let first : last_nonzero (a ∷ s) ≡ a = rw (eq-eqb (last_nonzero s) 0 z) refl in
-            ap₂ (λ (x : ℕ) (w : List ℕ). x ∷ w) (sym first ∙ e)
-            (none_zero m s (record { len = (let l = h.len in omega arith); codes = h.codes.1 }) z)
-        | inr nz ↦ absurd (nz (rw (ne_eqb (last_nonzero s) 0 nz) at e))
+            let first : last_nonzero (a ∷ s) ≡ a = rw (eq-eqb _ 0 z) in
+            cc (none_zero m s (record { len = (let l = h.len in omega arith); codes = h.codes.1 }) z)
+        | inr nz ↦ absurd (nz (rw (ne_eqb _ 0 nz) at e))
       ]
 
   -- no multiple of zeros is another
   pub multiple_of_zeros : (m : ℕ) (s t : List ℕ) → IsMultiple q s t → t ≡ zeros m → last_nonzero s ≡ 0
   multiple_of_zeros m s t h e =
-      ap last_nonzero (h.is ∙ ap (scale q h.factor) e ∙ scale-zeros h.factor m) ∙ last_nonzero-zeros m
+      cc (scale-zeros h.factor m, last_nonzero-zeros m)
 
   -- a vector without nonzero codes has the class number 0
   pub weightless_number : (m : ℕ) (s : List ℕ) → IsVector q m s → weight s ≡ 0 → class_number q s ≡ 0
   weightless_number m s h e =
       elim (cases_eq (last_nonzero s) 0) [
-        | inl z ↦ ap (class_number q) (none_zero m s h z) ∙ zero_number m
-        | inr nz ↦ absurd (let some = number-some s (omega arith) in let none = number-weight q s e in omega arith)
+        | inl z ↦ cc (none_zero m s h z, zero_number m)
+        | inr nz ↦ absurd (omega (arith, number-some s (omega arith), number-weight q s e))
       ]

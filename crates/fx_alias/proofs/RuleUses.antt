@@ -1,8 +1,6 @@
 -- What the claim on rules gives: one that is weakened does not.
-use Rattle.std.specs.Prelude.{ℕ, ◌≡◌, List, [], ◌∷◌, ◌++◌}
-use Rattle.std.specs.Prelude.{codes}
-use Rattle.std.specs.Fmt.{digits as decimal_digits}
-use Rattle.fx_designs.specs.Galois.{digits}
+use Rattle.std.specs.Prelude.{ℕ, ◌≡◌, List, [], ◌∷◌, ◌++◌, codes}
+use Rattle.std.specs.Fmt.{digits}
 use Rattle.fx_designs.specs.Problems.{Dimensions}
 use Rattle.fx_alias.specs.Rules.{HasItsRule, block_names, rule_lines, subjects}
 
@@ -16,5 +14,5 @@ names = codes "A" ∷ codes "B" ∷ codes "C" ∷ []
 third : (h : HasItsRule half names (1 ∷ 2 ∷ 3 ∷ []) 2)
     → rule_lines 2 2 [] (subjects names (block_names 0)) (1 ∷ 2 ∷ 3 ∷ [])
     ≡ h.before ++ (codes "  C = A*B\n" ++ h.after)
-unfolding digits decimal_digits
+unfolding digits
 third h = h.printed

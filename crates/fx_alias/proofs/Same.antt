@@ -1,6 +1,6 @@
 -- Classes by numbers that are the same.
 use Rattle.std.proofs.Common.{ℕ, ◌≡◌, ◌<◌, ◌||◌, Bool, cond, eqb, not, List, [], ◌∷◌, ◌++◌, length, map, filter, get_or}
-use Rattle.std.proofs.Common.{refl, sym, ◌∙◌, ap, ap₂, arith, ext_get_or}
+use Rattle.std.proofs.Common.{refl, sym, ◌∙◌, ap, arith, ext_get_or}
 use Rattle.std.specs.List.{list_any, range_with_len, AllByRecursion}
 use Rattle.std.proofs.lemmas.Bool.{eq-eqb}
 use Rattle.std.proofs.lemmas.List.{get_or-map}
@@ -20,22 +20,25 @@ pub added_first : (number : ℕ → ℕ) (n i : ℕ) (group : List ℕ) → i < 
     ≡ added number (range_with_len 0 n) (range_with_len 0 i) i
 added_first number n i group low is =
     let p : ℕ → Bool = λ j. eqb (number j) (number i) in
-    let first = ap (λ (l : List ℕ). eqb (get_or l 0 0) i) is ∙ is_first p n i low (eq-eqb (number i) (number i) refl) in
-    let twice : (b : Bool) → not (not b) ≡ b = not-not in
-    ap₂ (λ (b : Bool) (l : List ℕ). cond (eqb (number i) 0 || b) [] (l ∷ []))
-    (ap not first ∙ twice (list_any p (range_with_len 0 i)) ∙ list_any_agree p (λ v. eqb (number i) (number v))
-    (λ v. eqb_comm (number v) (number i)) (range_with_len 0 i))
-    (is ∙ filter_agree p (λ v. eqb (number i) (number v)) (λ v. eqb_comm (number v) (number i)) (range_with_len 0 n))
+    let first = ap (λ l. eqb (get_or l 0 0) i) is ∙ is_first p n i low (eq-eqb _ _ refl) in
+    let twice = not-not in
+    cc (
+      twice (list_any p (range_with_len 0 i)),
+      list_any_agree p (λ v. eqb (number i) (number v))
+          (λ v. eqb_comm (number v) (number i)) (range_with_len 0 i),
+      filter_agree p (λ v. eqb (number i) (number v))
+          (λ v. eqb_comm (number v) (number i)) (range_with_len 0 n),
+    )
 
 any_each : (p r : ℕ → Bool) (xs : List ℕ) → AllByRecursion (λ x. p x ≡ r x) xs → list_any p xs ≡ list_any r xs
 any_each p r [] h = refl
-any_each p r (x ∷ xs) h = ap₂ (λ (a b : Bool). a || b) h.0 (any_each p r xs h.1)
+any_each p r (x ∷ xs) h = cc (any_each p r xs h.1)
 
 module _ (f g : ℕ → ℕ) where
   tests : (k l : ℕ) (xs : List ℕ) → k ≡ l → AllByRecursion (λ x. f x ≡ g x) xs
       → AllByRecursion (λ x. eqb k (f x) ≡ eqb l (g x)) xs
   tests k l [] e h = tt
-  tests k l (x ∷ xs) e h = (ap₂ eqb e h.0, tests k l xs e h.1)
+  tests k l (x ∷ xs) e h = (cc, tests k l xs e h.1)
 
   -- numbers that are the same give the same classes
   pub numbered_same : (items before rest : List ℕ) → AllByRecursion (λ x. f x ≡ g x) items
@@ -43,25 +46,24 @@ module _ (f g : ℕ → ℕ) where
       → numbered_behind f items before rest ≡ numbered_behind g items before rest
   numbered_same items before [] h k r = refl
   numbered_same items before (x ∷ rest) h k r =
-      ap₂ (λ (a b : List (List ℕ)). a ++ b)
-      (ap₂ (λ (b : Bool) (l : List ℕ). cond b [] (l ∷ []))
-      (ap₂ (λ (a b : Bool). a || b) (ap (λ (z : ℕ). eqb z 0) r.0)
-      (any_each (λ v. eqb (f x) (f v)) (λ v. eqb (g x) (g v)) before (tests (f x) (g x) before r.0 k)))
-      (filter_agree_each (λ v. eqb (f x) (f v)) (λ v. eqb (g x) (g v)) items (tests (f x) (g x) items r.0 h)))
-      (numbered_same items (before ++ x ∷ []) rest h (each-append (λ x. f x ≡ g x) before (x ∷ []) k (r.0, tt)) r.1)
+      cc (
+        any_each _ _ before (tests _ _ before r.0 k),
+        filter_agree_each _ _ items (tests _ _ items r.0 h),
+        numbered_same items (before ++ x ∷ []) rest h (each-append _ before _ k (r.0, tt)) r.1,
+      )
 
 -- a list is what stands at its places
 pub at_all : (xs : List (List ℕ)) → map (λ i. get_or xs i []) (range_with_len 0 (length xs)) ≡ xs
 at_all xs =
-    ext_get_or [] _ xs (length-map-range_with_len (λ i. get_or xs i []) 0 (length xs))
-    (λ k low. get_or-map-range_with_len (λ i. get_or xs i []) 0 (length xs) k k []
+    ext_get_or [] _ xs (length-map-range_with_len (λ i. get_or xs i []) 0 _)
+    (λ k low. get_or-map-range_with_len (λ i. get_or xs i []) 0 _ k k []
     (omega (arith, length-map-range_with_len (λ i. get_or xs i []) 0 (length xs))) (omega arith))
 
 same_at : (number : List ℕ → ℕ) (components : List (List ℕ)) (numbers : List ℕ) → numbers ≡ map number components
     → AllByRecursion (λ i. number (get_or components i []) ≡ get_or numbers i 0) (range_with_len 0 (length components))
 same_at number components numbers is =
-    each-range (λ i. number (get_or components i []) ≡ get_or numbers i 0) 0 (length components)
-    (λ i low high. sym (get_or-map number components i [] 0 (omega arith)) ∙ ap (λ (l : List ℕ). get_or l i 0) (sym is))
+    each-range (λ i. number (get_or components i []) ≡ get_or numbers i 0) 0 _
+    (λ i low high. sym (get_or-map number components i [] 0 (omega arith)) ∙ ap (λ l. get_or l i 0) (sym is))
 
 -- the classes of components by the numbers at their places
 pub classes_at : (number : List ℕ → ℕ) (components : List (List ℕ)) (numbers : List ℕ) → numbers ≡ map number components
@@ -70,19 +72,21 @@ pub classes_at : (number : List ℕ → ℕ) (components : List (List ℕ)) (num
     (numbered_behind (λ i. get_or numbers i 0) (range_with_len 0 (length components)) []
     (range_with_len 0 (length components)))
 classes_at number components numbers is =
-    let n : ℕ = length components in
+    let n = length components in
     let at : ℕ → List ℕ = λ i. get_or components i [] in
     let same = same_at number components numbers is in
-    ap (λ (l : List (List ℕ)). numbered_behind number l [] l) (sym (at_all components))
-    ∙ numbered_mapped at number (range_with_len 0 n) [] (range_with_len 0 n)
-    ∙ ap (map (map at))
-    (numbered_same (λ i. number (at i)) (λ i. get_or numbers i 0) (range_with_len 0 n) [] (range_with_len 0 n) same tt
-    same)
+    cc (
+      at_all components,
+      numbered_mapped at number (range_with_len 0 n) [] (range_with_len 0 n),
+      numbered_same _ _ _
+          [] _ same tt
+          same,
+    )
 
 number_tests : (f g : ℕ → ℕ) (z : ℕ) (xs : List ℕ) → AllByRecursion (λ x. f x ≡ g x) xs
     → AllByRecursion (λ x. eqb (g x) z ≡ eqb (f x) z) xs
 number_tests f g z [] h = tt
-number_tests f g z (x ∷ xs) h = (ap (λ (y : ℕ). eqb y z) (sym h.0), number_tests f g z xs h.1)
+number_tests f g z (x ∷ xs) h = (cc, number_tests f g z xs h.1)
 
 -- the components of one number by the numbers at their places
 pub items_at : (number : List ℕ → ℕ) (components : List (List ℕ)) (numbers : List ℕ) (z : ℕ)
@@ -91,10 +95,12 @@ pub items_at : (number : List ℕ → ℕ) (components : List (List ℕ)) (numbe
     (filter (λ i. eqb (get_or numbers i 0) z) (range_with_len 0 (length components)))
     ≡ filter (λ u. eqb (number u) z) components
 items_at number components numbers z is =
-    let places : List ℕ = range_with_len 0 (length components) in
+    let places = range_with_len 0 (length components) in
     let at : ℕ → List ℕ = λ i. get_or components i [] in
-    ap (map at)
-    (filter_agree_each (λ i. eqb (get_or numbers i 0) z) (λ i. eqb (number (at i)) z) places
-    (number_tests (λ i. number (at i)) (λ i. get_or numbers i 0) z places (same_at number components numbers is)))
-    ∙ sym (filter_mapped at number (λ u. eqb (number u) z) places)
-    ∙ ap (filter (λ u. eqb (number u) z)) (at_all components)
+    cc (
+      filter_agree_each _ _ places
+          (number_tests _ _ z places (same_at number components numbers is)),
+      filter_mapped at number (λ u. eqb (number u) z)
+          places,
+      at_all components,
+    )

@@ -1,6 +1,6 @@
 -- The rules from a row on.
 use Rattle.std.proofs.Common.{ℕ, ◌≡◌, ◌<◌, ◌≤◌, ◌+◌, ◌^◌, zero, suc, List, [], ◌∷◌, ◌++◌, length, drop, get_or}
-use Rattle.std.proofs.Common.{drop-cons, append_assoc, refl, sym, ap, ◌∙◌, Bool, true, false, arith}
+use Rattle.std.proofs.Common.{drop-cons, append_assoc, refl, ◌∙◌, Bool, true, false, arith}
 use Rattle.std.specs.Prelude.{◌==◌, slice_index, slice_index_or}
 use Rattle.std.proofs.lemmas.Bool.{cond-true, cond-false}
 use Rattle.fx_designs.specs.Galois.{digits}
@@ -36,12 +36,7 @@ module _ (q m : ℕ) (introduced factors blocks : List (List ℕ)) (rows : List 
     from-row : rule_lines q m introduced (drop k (subjects factors blocks)) (drop k rows)
         ≡ rule_lines q m introduced (subject ∷ later) (row ∷ drop (suc k) rows)
     from-row =
-        ap (λ l. rule_lines q m introduced l (drop k rows))
-        (subjects-from factors blocks k is_block (omega arith) block factor)
-        ∙ ap (λ x. rule_lines q m introduced (record { name = x; is_block = is_block } ∷ later) (drop k rows))
-        (sym name_is)
-        ∙ ap (λ l. rule_lines q m introduced (subject ∷ later) l) (drop-cons rows k 0 below)
-        ∙ ap (λ x. rule_lines q m introduced (subject ∷ later) (x ∷ drop (suc k) rows)) (sym row_is)
+        cc (subjects-from factors blocks k is_block (omega arith) block factor, drop-cons rows k 0 below)
 
     -- the rules from row k on, where it introduces a run index
     pub introducing-rule : (row == q ^ length introduced) ≡ true
@@ -60,4 +55,4 @@ module _ (q m : ℕ) (introduced factors blocks : List (List ℕ)) (rows : List 
 pub remaining-lines : (before first after old out all : List ℕ) → before ≡ first ++ after → out ≡ old ++ first
     → old ++ before ≡ all → out ++ after ≡ all
 remaining-lines before first after old out all next listed so_far =
-    ap (λ l. l ++ after) listed ∙ append_assoc old first after ∙ ap (λ l. old ++ l) (sym next) ∙ so_far
+    cc (append_assoc old first after)

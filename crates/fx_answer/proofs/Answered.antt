@@ -1,17 +1,16 @@
 -- What the answer of a question adds to what was found before.
 use Rattle.std.proofs.Common.{ℕ, ◌≡◌, ◌+◌, ◌&&◌, ◌||◌, Bool, true, false, length, filter, List, [], ◌∷◌, ◌++◌}
-use Rattle.std.proofs.Common.{slice_index_or, Option, Some, None, refl, sym, ap, ◌∙◌, subst, eqb-true}
+use Rattle.std.proofs.Common.{Option, Some, None, refl, sym, ap, ◌∙◌, subst, eqb-true}
 use Rattle.std.specs.Prelude.{not}
 use Rattle.std.specs.List.{list_all}
 use Rattle.std.specs.Option.{option_or}
 use Rattle.std.proofs.lemmas.Bool.{cond-true, cond-false, and_parts}
 use Rattle.fx_designs.specs.Answers.{answer, designs, is_design, is_of_least_pattern, prefixes}
 use Rattle.fx_designs.specs.Patterns.{pattern_of, is_less}
-use Rattle.fx_designs.specs.Nodes.{nodes, is_complete_allowed}
-use Rattle.fx_designs.specs.Jobs.{best_of, best_before, carried, first_least, is_of_earlier_lot}
+use Rattle.fx_designs.specs.Nodes.{is_complete_allowed}
+use Rattle.fx_designs.specs.Jobs.{best_of, best_before, carried, first_least}
 use Rattle.fx_designs.specs.Problems.{Problem}
 use Rattle.fx_laws.proofs.Order.{found_in_filter}
-use Rattle.fx_vectors.specs.declared.shape.Shape.{Shape}
 use Rattle.fx_vectors.specs.declared.question.Question.{Question}
 use Rattle.fx_vectors.specs.Shape.{dimensions_of}
 use Rattle.fx_vectors.specs.Matrix.{MatrixView}
@@ -50,14 +49,14 @@ carried-whole : (p : Problem) (budget : ℕ) (rows : List ℕ) → carried p bud
     → length rows ≡ p.dimensions.s + p.dimensions.t
 unfolding carried best_before
 carried-whole p budget rows is =
-    left-whole p p.least refl (is_of_earlier_lot p.dimensions (slice_index_or (nodes p) budget [])) rows is
+    left-whole p p.least refl _ rows is
 
 -- the matrix of a question's answer
 module _ (question : Question) (matrix : MatrixView) (is : answer (problem_of question) ≡ Some matrix.rows)
     (sized : matrix.shape ≡ question.shape) where
   pub found-whole : IsWhole (Some matrix)
   found-whole =
-      answer-whole (problem_of question) matrix.rows is ∙ ap (λ (shape : Shape). shape.s + shape.t) (sym sized)
+      cc (answer-whole _ matrix.rows is)
 
   pub found-of : (step : Meaning) → IsShapeOf step question.shape → IsOf step (Some matrix)
   found-of step of = subst (IsShapeOf step) (sym sized) of
@@ -65,17 +64,15 @@ module _ (question : Question) (matrix : MatrixView) (is : answer (problem_of qu
   pub found-stands : (p : Problem) → problem_of question ≡ p → (earlier : List Problem)
       → StandsFor (Some matrix) (last_found None (earlier ++ p ∷ []))
   found-stands p same earlier =
-      let own : answer p ≡ Some matrix.rows = ap answer (sym same) ∙ is in
-      subst (StandsFor (Some matrix)) (sym (found_more None earlier p ∙ ap (found_by (last_found None earlier) p) own))
-      (refl, ap dimensions_of sized ∙ ap (λ (p : Problem). p.dimensions) same)
+      subst (StandsFor (Some matrix))
+      (sym (found_more None earlier p ∙ ap (found_by (last_found None earlier) p) (ap answer (sym same) ∙ is)))
+      (refl, ap dimensions_of sized ∙ ap (λ p. p.dimensions) same)
 
   -- and its resolution is reached
   pub found-reached : (p : Problem) → problem_of question ≡ p → (earlier : List Problem)
       → resolution_wanted (requirement_of question.demands) ≡ reached_by (last_found None (earlier ++ p ∷ []))
   found-reached p same earlier =
-      let own : answer p ≡ Some matrix.rows = ap answer (sym same) ∙ is in
-      ap (λ (p : Problem). resolution_wanted p.requirement) same
-      ∙ sym (ap reached_by (found_more None earlier p ∙ ap (found_by (last_found None earlier) p) own))
+      cc (found_more None earlier p, (ap answer (sym same) ∙ is))
 
 -- a question without answer adds nothing
 pub nothing-stands : (p : Problem) (found : Option MatrixView) (earlier : List Problem) → answer p ≡ None
@@ -87,7 +84,7 @@ nothing-stands p found earlier is stands =
 pub nothing-reached : (p : Problem) (earlier : List Problem) → answer p ≡ None
     → reached_by (last_found None earlier) ≡ reached_by (last_found None (earlier ++ p ∷ []))
 nothing-reached p earlier is =
-    sym (ap reached_by (found_more None earlier p ∙ ap (found_by (last_found None earlier) p) is))
+    cc (found_more None earlier p)
 
 -- what is left where the budget ended in a question
 module _ (question : Question) (budget : ℕ) where
@@ -96,8 +93,7 @@ module _ (question : Question) (budget : ℕ) where
       → IsWhole (option_or best found)
   left-is-whole None found is sized whole = whole
   left-is-whole (Some matrix) found is sized whole =
-      carried-whole (problem_of question) budget matrix.rows (sym is) ∙ ap (λ (shape : Shape). shape.s + shape.t)
-      (sym (shape-same matrix.shape question.shape sized))
+      cc (carried-whole _ budget matrix.rows (sym is), shape-same matrix.shape question.shape sized)
 
   pub left-of : (step : Meaning) (best found : Option MatrixView) → HasDimensions (dimensions_of question.shape) best
       → IsShapeOf step question.shape → IsOf step found → IsOf step (option_or best found)
@@ -110,7 +106,6 @@ module _ (question : Question) (budget : ℕ) where
       → problem_of question ≡ p → StandsFor found before
       → StandsFor (option_or best found) (found_by before p (carried p budget))
   left-stands None found before p is sized same stands =
-      subst (λ left. StandsFor found (found_by before p left)) (is ∙ ap (λ p. carried p budget) same) stands
+      rw (← (is ∙ ap (λ p. carried p budget) same)) stands
   left-stands (Some matrix) found before p is sized same stands =
-      subst (λ left. StandsFor (Some matrix) (found_by before p left)) (is ∙ ap (λ p. carried p budget) same)
-      (refl, sized ∙ ap (λ (p : Problem). p.dimensions) same)
+      rw (← (is ∙ ap (λ p. carried p budget) same)) (refl, sized ∙ ap (λ p. p.dimensions) same)

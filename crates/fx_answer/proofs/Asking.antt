@@ -14,7 +14,7 @@ use Rattle.fx_designs.specs.Nodes.{nodes}
 use Rattle.fx_statements.specs.Steps.{Meaning}
 use Rattle.fx_statements.specs.Questions.{Until, Found, Turn, conclusion_of, found_by, highest, is_last, last_found}
 use Rattle.fx_statements.specs.Questions.{last_of, lowest, nodes_of, outcome_of, passes, question_for, turns, until}
-use Rattle.fx_statements.specs.Questions.{seeks_highest, up_to}
+use Rattle.fx_statements.specs.Questions.{up_to}
 use Rattle.fx_vectors.specs.declared.book.NamedBook.{NamedBook}
 use Rattle.fx_answer.specs.Books.{book_at, books_from, books_of, finished}
 use Rattle.fx_answer.specs.Standing.{ComeBefore, all_books_from, conclusion_from, questions_above, value_after}
@@ -25,7 +25,7 @@ same_effects : (seeks : Bool) (requirement : Requirement) (n k : ℕ) (estimate 
     → (if seeks then AtResolution k else requirement) ≡ ForEffects estimate besides
     → (if seeks then AtResolution n else requirement) ≡ ForEffects estimate besides
 same_effects true requirement n k estimate besides is =
-    absurd (let e : AtResolution k ≡ ForEffects estimate besides = is in cc e)
+    absurd (cc is)
 same_effects false requirement n k estimate besides is = is
 
 -- so they have the same forbidden vectors
@@ -34,7 +34,7 @@ pub same_words : (step : Meaning) (n k : ℕ) (words : List ForbiddenVector) →
 same_words step n k words h =
     record {
       all = λ estimate besides is.
-          h.all estimate besides (same_effects (seeks_highest step.settings) step.requirement n k estimate besides is);
+          h.all estimate besides (same_effects _ step.requirement n k estimate besides is);
     }
 
 -- and its answer is the last, if it has one
@@ -53,20 +53,18 @@ module _ {T : Type 0} (value : Problem → List Problem → Option Turn → T) (
   ended others more =
       let rest = up_to (is_last ends) (p ∷ others) in
       ap (value (last_of p rest) (earlier ++ rest))
-      (cond-true _ _ _ (lt-ltb budget (nodes_of earlier + length (nodes p)) more))
+      (cond-true _ _ _ (lt-ltb budget _ more))
 
   module _ (within : nodes_of earlier + length (nodes p) ≤ budget) where
     passed_by : (rest : List Problem)
         → find (passes budget) (turns earlier (p ∷ rest)) ≡ find (passes budget) (turns (earlier ++ p ∷ []) rest)
-    passed_by rest = cond-false _ _ _ (le-ltb budget (nodes_of earlier + length (nodes p)) within)
+    passed_by rest = cond-false _ _ _ (le-ltb budget _ within)
 
     alone : (rest : List Problem) → rest ≡ []
         → value (last_of p (p ∷ rest)) (earlier ++ p ∷ rest) (find (passes budget) (turns earlier (p ∷ rest)))
         ≡ value p (earlier ++ p ∷ []) None
     alone rest is =
-        ap (λ rest. value (last_of p (p ∷ rest)) (earlier ++ p ∷ rest)
-        (find (passes budget) (turns earlier (p ∷ rest)))) is
-        ∙ ap (value p (earlier ++ p ∷ [])) (passed_by [])
+        cc (passed_by [])
 
     -- it is finished, and its answer is such that no further question is asked
     pub decided : (others : List Problem) → is_last ends p ≡ true
@@ -98,11 +96,11 @@ module _ (step : Meaning) where
   above : (n : ℕ) → n < last → questions_above step n ≡ question_for step (n + 1) ∷ questions_above step (n + 1)
   above n low =
       ap (λ k. map (question_for step) (range_with_len (n + 1) k))
-      (let e : last - n ≡ suc (last - (n + 1)) = omega (arith, low) in e)
+      (let e : last - n ≡ suc (last - (n + 1)) = omega arith in e)
 
   none_above : (n : ℕ) → n ≡ last → questions_above step n ≡ []
   none_above n is =
-      ap (λ k. map (question_for step) (range_with_len (n + 1) k)) (let e : last - n ≡ 0 = omega (arith, is) in e)
+      ap (λ k. map (question_for step) (range_with_len (n + 1) k)) (let e : last - n ≡ 0 = omega arith in e)
 
   -- where the question for n is finished, it is the last or the next one is asked
   pub past : {T : Type 0} (value : Problem → List Problem → Option Turn → T) (earlier : List Problem) (n : ℕ) → n ≤ last
@@ -123,7 +121,7 @@ module _ (step : Meaning) where
               ∙ sym (cond-true _ _ _ (or_right (eqb n last) _ is))
           | inr on ↦
               ap (value_after value budget ends earlier p)
-              (above n (let d : n < last = omega (arith, high, other) in d))
+              (above n (let d : n < last = omega arith in d))
               ∙ (next value budget ends earlier p within (question_for step (n + 1)) (questions_above step (n + 1)) on
               ∙ sym (cond-false _ _ _ (or_from _ _ (false_from_ne_true _ (λ e. other (eqb-true n last e))) on)))
         ]
@@ -145,7 +143,7 @@ pub books_more : (number : ℕ) (ps : List Problem) (p : Problem)
 books_more number [] p =
     append-nil (book_at number p) ∙ ap (λ n. book_at n p) (let e : number ≡ number + 0 = omega arith in e)
 books_more number (x ∷ ps) p =
-    ap (λ (l : List NamedBook). book_at number x ++ l) (books_more (number + 1) ps p)
+    ap (λ l. book_at number x ++ l) (books_more (number + 1) ps p)
     ∙ (ap (λ n. book_at number x ++ (books_from (number + 1) ps ++ book_at n p))
     (let e : number + 1 + length ps ≡ number + length (x ∷ ps) = omega arith in e)
     ∙ sym (append_assoc (book_at number x) (books_from (number + 1) ps) (book_at (number + length (x ∷ ps)) p)))
@@ -153,7 +151,7 @@ books_more number (x ∷ ps) p =
 -- the question for n comes after those before it
 module _ (step : Meaning) (earlier : List Problem) (n : ℕ) (p : Problem) (come : ComeBefore step earlier n) where
   pub come_more : ComeBefore step (earlier ++ p ∷ []) (n + 1)
-  come_more = let e = length-append earlier (p ∷ []) in omega (arith, come, e)
+  come_more = let e = length-append earlier (p ∷ []) in omega arith
 
   -- and so does its book
   pub books_so_far : (asked : Problem) (number : ℕ) (old now : List NamedBook) → asked ≡ p
@@ -161,7 +159,7 @@ module _ (step : Meaning) (earlier : List Problem) (n : ℕ) (p : Problem) (come
       → now ≡ old ++ book_at number asked → now ≡ books_from 1 (earlier ++ p ∷ [])
   books_so_far asked number old now same is before e =
       e
-      ∙ (ap (λ (l : List NamedBook). l ++ book_at number asked) before
+      ∙ (ap (λ l. l ++ book_at number asked) before
       ∙ (ap₂ (λ k q. books_from 1 earlier ++ book_at k q)
-      (let k : number ≡ 1 + length earlier = omega (arith, is, come) in k) same
+      (let k : number ≡ 1 + length earlier = omega arith in k) same
       ∙ sym (books_more 1 earlier p)))

@@ -1,8 +1,8 @@
 -- The design of a valid step is as it asks, and none is better: of the questions of the step the next, or each before
 -- it, has no answer.
-use Rattle.std.proofs.Common.{ℕ, suc, ◌≡◌, ◌<◌, ◌≤◌, ◌+◌, ◌-◌, ◌||◌, ◌&&◌, Bool, true, false, List, length, Option}
-use Rattle.std.proofs.Common.{Some, None, refl, sym, ap, ap₂, ◌∙◌, subst, arith, inl, inr, ◌⊎◌, eqb-true}
-use Rattle.std.specs.Prelude.{not, max, if◌then◌else◌, is_some, slice_get}
+use Rattle.std.proofs.Common.{ℕ, suc, ◌≡◌, ◌<◌, ◌≤◌, ◌+◌, ◌-◌, true, false, List, length, Option}
+use Rattle.std.proofs.Common.{Some, None, refl, sym, ap, ◌∙◌, subst, arith, inl, inr, ◌⊎◌, eqb-true}
+use Rattle.std.specs.Prelude.{max, is_some, slice_get}
 use Rattle.std.proofs.lemmas.Bool.{leb-true, cases_Bool, cases_lt, and_parts, both_ways, eqb-true, or_parts}
 use Rattle.fx_designs.specs.Galois.{IsField}
 use Rattle.fx_designs.specs.Problems.{Dimensions, Problem, Requirement, AtResolution}
@@ -14,7 +14,7 @@ use Rattle.fx_designs.specs.Matrices.{NoneMeets}
 use Rattle.fx_laws.proofs.Tables.{is_order-field}
 use Rattle.fx_reduction.specs.Reduction.{IsReducible}
 use Rattle.fx_reduction.specs.BlockedResolutions.{IsHighestInBlocks, top_resolution}
-use Rattle.fx_reduction.specs.Resolutions.{HasLeastPattern, HighestOfAll}
+use Rattle.fx_reduction.specs.Resolutions.{HasLeastPattern}
 use Rattle.fx_reduction.specs.Strengths.{with_block}
 use Rattle.fx_reduction.specs.MostBlocks.{with_blocks}
 use Rattle.fx_reduction.proofs.BlockCounts.{most-blocks, none-with_more}
@@ -32,16 +32,15 @@ use Rattle.fx_settings.specs.Powers.{greatest}
 use Rattle.fx_settings.specs.Settings.{is_level}
 use Rattle.fx_settings.specs.Valid.{are_blocks, has_blocks, has_most, stand_together}
 use Rattle.fx_settings.specs.declared.settings.Criterion.TheVariants.{Highest}
-use Rattle.fx_statements.specs.Requirements.{IsOfKind}
 use Rattle.fx_statements.specs.Steps.{Meaning}
 use Rattle.fx_statements.specs.Questions as asked
-use Rattle.fx_statements.specs.Questions.{Answered, Unanswered, Conclusion, Until, block_factors, conclusion_of}
+use Rattle.fx_statements.specs.Questions.{Conclusion, block_factors, conclusion_of}
 use Rattle.fx_statements.specs.Questions.{least_exponent, lowest, outcome_of, question_for, questions_of, is_last}
 use Rattle.fx_statements.specs.Questions.{resolution_wanted, run_factors, seeks_highest, series, until}
 use Rattle.fx_statements.proofs.Concluded.{HasEnding, IsOfFirst, IsOfLast, of-first, of-last, none-of_all}
 use Rattle.fx_statements.proofs.Concluded.{none-of_first, IsQuestionOf, asked_at, each-of_step}
 use Rattle.fx_answer.specs.StepClaims.{Allows, ClaimsHold, HasHighestOfAll, HasLeastOfAll, HasLeastSize, HasMostBlocks}
-use Rattle.fx_answer.specs.StepClaims.{HasHighestInBlocks, HasNoneAtAll, HasWhatItAsks, IsAsItAsks, OfOutcome}
+use Rattle.fx_answer.specs.StepClaims.{HasHighestInBlocks, HasNoneAtAll, HasWhatItAsks, OfOutcome}
 use Rattle.fx_answer.specs.StepClaims.{LeavesNoneOfLeastSize, MeetsWhatItReached}
 use Rattle.fx_answer.specs.ValidSteps.{IsValidStep}
 use Rattle.fx_answer.proofs.StepSettings.{most_or, not_both, not_most, same_blocks, runs_again, blocks_again}
@@ -50,7 +49,7 @@ use Rattle.fx_answer.proofs.StepSettings.{same_dimensions}
 use Rattle.fx_answer.proofs.FullBlocks.{fewer_than_indexes, requirement-estimated}
 use Rattle.fx_answer.proofs.NextResolution.{exact_resolution, full_resolution}
 use Rattle.fx_answer.proofs.Valid.{order_of, seeks_with_least, some_numbers}
-use Rattle.fx_answer.proofs.Left.{IsLeftOf, left-of, left_met, none-left}
+use Rattle.fx_answer.proofs.Left.{left-of, left_met, none-left}
 
 -- A question of a step that is asked, requires this of designs of these dimensions, and has this answer
 pub record IsAsked (step : Meaning) (d : Dimensions) (wanted : Requirement) (own : Option (List ℕ)) : Type 0 where
@@ -89,25 +88,24 @@ module _ (step : Meaning) (valid : IsValidStep step) where
   -- no least aberration in blocks
   plain_in_blocks : has_blocks step.settings.blocks ≡ true → step.settings.least ≡ false
   plain_in_blocks h =
-      (or_parts _ _ (not_both (has_blocks step.settings.blocks) _ (and_parts _ _ (and_parts _ _ together).0).1 h)).0
+      (or_parts _ _ (not_both _ _ (and_parts _ _ (and_parts _ _ together).0).1 h)).0
 
   -- the least size with neither, and not with the most blocks
   with_least_size : step.settings.size ≡ Minimum
       → (is_highest step.settings.criterion ≡ false) × (step.settings.least ≡ false)
       × (has_most step.settings.blocks ≡ false)
   with_least_size e =
-      let none = not_both (is_minimum step.settings.size) _ (and_parts _ _ together).1 (ap is_minimum e) in
-      let first = or_parts _ _ none in
+      let first = or_parts _ _ (not_both _ _ (and_parts _ _ together).1 (ap is_minimum e)) in
       let second = or_parts _ _ first.0 in
       (second.0, second.1, first.1)
 
   -- where the highest resolution is wanted, the most blocks are not, and the size is fixed
   highest_kind : step.settings.criterion ≡ Highest → is_highest step.settings.criterion ≡ true
-  highest_kind e = ap is_highest e
+  highest_kind e = cc
 
   highest_not_most : step.settings.criterion ≡ Highest → has_most step.settings.blocks ≡ false
   highest_not_most e =
-      not_most step.settings.blocks (is_highest step.settings.criterion) step.settings.least
+      not_most step.settings.blocks _ step.settings.least
       (and_parts _ _ (and_parts _ _ together).0).1 (highest_kind e)
 
   highest_fixed : step.settings.criterion ≡ Highest → step.settings.size ≡ Minimum → ⊥
@@ -124,41 +122,40 @@ module _ (step : Meaning) (valid : IsValidStep step) where
 
   -- what a question requires
   least_required : step.settings.criterion ≡ Highest → step.requirement ≡ AtResolution 3
-  least_required e = subst (λ kind. IsOfKind kind step.requirement) e valid.kind
+  least_required e = rw e at valid.kind
 
   seeks : step.settings.least ≡ false → step.settings.criterion ≡ Highest → seeks_highest step.settings ≡ true
-  seeks plain e = ap₂ (λ kind least. is_highest kind && not least) e plain
+  seeks plain e = cc
 
   requirement_is : (n : ℕ) → seeks_highest step.settings ≡ false → (question n).requirement ≡ step.requirement
-  requirement_is n given = ap (λ b. if b then AtResolution n else step.requirement) given
+  requirement_is n given = cc
 
   requires_same : (n : ℕ) → is_highest step.settings.criterion ≡ false → (question n).requirement ≡ step.requirement
-  requires_same n other = requirement_is n (ap (λ b. b && not step.settings.least) other)
+  requires_same n other = requirement_is n (cc)
 
   requires_least : (n : ℕ) → step.settings.least ≡ true → (question n).requirement ≡ step.requirement
   requires_least n least = requirement_is n (seeks_with_least step.settings least)
 
   requires_resolution : (n : ℕ) → step.settings.least ≡ false → step.settings.criterion ≡ Highest
       → (question n).requirement ≡ AtResolution n
-  requires_resolution n plain e = ap (λ b. if b then AtResolution n else step.requirement) (seeks plain e)
+  requires_resolution n plain e = cc (seeks plain e)
 
   -- a question without an answer
   unanswered : (n : ℕ) (wanted : Requirement) → (question n).requirement ≡ wanted → IsReducible wanted
       → answer (question n) ≡ None
       → NoneMeets (question n).dimensions wanted
   unanswered n wanted is low none =
-      let some : 0 < length step.factors + block_factors step.settings.blocks (run_factors step.settings.size n) n =
-      omega (arith, leb-true 1 (length step.factors) (and_parts _ _ valid.factors).0) in
-      let reduced : IsReducible (question n).requirement = subst IsReducible (sym is) low in
       subst (NoneMeets (question n).dimensions) is
-      ((none-exactly (question n) field reduced).0 ((no_answer (question n) some).0 none))
+      ((none-exactly (question n) field (subst IsReducible (sym is) low)).0
+      ((no_answer (question n) (omega (arith, leb-true 1 (length step.factors) (and_parts _ _ valid.factors).0))).0
+      none))
 
   -- and its answer, where it has one
   answered : (n : ℕ) (rows : List ℕ) → answer (question n) ≡ Some rows
       → (length rows ≡ (question n).dimensions.s + (question n).dimensions.t)
       × (is_met (question n).dimensions (question n).requirement rows ≡ true)
   answered n rows is =
-      let parts = and_parts _ _ (answer-design (question n) rows is) in
+      let parts = and_parts _ _ (answer-design _ rows is) in
       (eqb-true _ _ parts.0, (and_parts _ _ parts.1).1)
 
   -- the dimensions that the step allows are those of its questions
@@ -168,24 +165,23 @@ module _ (step : Meaning) (valid : IsValidStep step) where
     levels = refl;
     factors = refl;
     runs = runs_again step.settings.size n;
-    sizes = λ e. (let is : run_factors step.settings.size n ≡ n = ap (λ size. run_factors size n) e in (
-      subst (λ m. least_exponent step.settings.blocks ≤ m) (sym is) (sizes e).0,
-      subst (λ m. m ≤ greatest q) (sym is)
-          (sizes e).1,
+    sizes = λ e. (let is : run_factors step.settings.size n ≡ n = cc in (
+      rw is (sizes e).0,
+      rw is (sizes e).1,
     ));
-    blocks = blocks_again step.settings.blocks (run_factors step.settings.size n) n;
+    blocks = blocks_again step.settings.blocks _ n;
     some_blocks =
         λ e. (let is : block_factors step.settings.blocks (run_factors step.settings.size n) n
-        ≡ n = ap (λ b. block_factors b (run_factors step.settings.size n) n) e in
-        subst (λ t. 1 ≤ t) (sym is) (some e));
+        ≡ n = cc in
+        rw is (some e));
   }
 
   allowed_is : (d : Dimensions) (n : ℕ) → Allows step d → run_factors step.settings.size n ≡ d.m
       → block_factors step.settings.blocks d.m n ≡ d.t
       → (question n).dimensions ≡ d
   allowed_is d n h runs blocks =
-      same_dimensions (question n).dimensions d (sym h.levels) runs (sym h.factors)
-      (ap (λ m. block_factors step.settings.blocks m n) runs ∙ blocks)
+      same_dimensions (question n).dimensions d (cc) runs (cc)
+      (cc)
 
   -- the outcome for a size
   abbrev at_size : Size → Conclusion
@@ -194,20 +190,20 @@ module _ (step : Meaning) (valid : IsValidStep step) where
 
   module _ (least : step.settings.size ≡ Minimum) where
     is_least : outcome_of step ≡ at_size Minimum
-    is_least = ap at_size least
+    is_least = cc
 
     first_found : (rows : List ℕ) (count : ℕ) → HasEnding (outcome_of step) (Design rows count)
         → IsOfFirst question (least_exponent step.settings.blocks) (greatest q) step.settings.budget rows
     first_found rows count e =
-        of-first question (least_exponent step.settings.blocks) (greatest q) step.settings.budget rows count
-        (ap (λ (c : Conclusion). c.ending) (sym is_least) ∙ e)
+        of-first question _ _ step.settings.budget rows count
+        (ap (λ c. c.ending) (sym is_least) ∙ e)
 
     none_found : (count : ℕ) → HasEnding (outcome_of step) (NoDesign count) → (n : ℕ)
         → least_exponent step.settings.blocks ≤ n → n ≤ greatest q
         → answer (question n) ≡ None
     none_found count e =
-        none-of_all question (least_exponent step.settings.blocks) (greatest q) step.settings.budget count
-        (ap (λ (c : Conclusion). c.ending) (sym is_least) ∙ e)
+        none-of_all question _ _ step.settings.budget count
+        (ap (λ c. c.ending) (sym is_least) ∙ e)
 
   module _ (m : ℕ) (fixed : step.settings.size ≡ Runs m) where
     abbrev low : ℕ
@@ -217,38 +213,34 @@ module _ (step : Meaning) (valid : IsValidStep step) where
     high = asked.highest step (Runs m)
 
     is_fixed : outcome_of step ≡ at_size (Runs m)
-    is_fixed = ap at_size fixed
+    is_fixed = cc
 
     last_found : (rows : List ℕ) (count : ℕ) → HasEnding (outcome_of step) (Design rows count)
         → IsOfLast question low high step.settings.budget rows
     last_found rows count e =
-        of-last question low high step.settings.budget rows count (ap (λ (c : Conclusion). c.ending) (sym is_fixed) ∙ e)
+        of-last question low high step.settings.budget rows count (cc is_fixed)
 
     first_none : (count : ℕ) → HasEnding (outcome_of step) (NoDesign count) → answer (question low) ≡ None
     first_none count e =
         none-of_first question low high step.settings.budget count
-        (ap (λ (c : Conclusion). c.ending) (sym is_fixed) ∙ e)
+        (cc is_fixed)
 
     -- where the most blocks are asked, the questions are for 1 to m block factors
     low_most : step.settings.blocks ≡ blocks.Most → low ≡ 1
-    low_most e = ap (λ b. if has_most b then 1 else 3) e
+    low_most e = cc
 
     high_most : step.settings.blocks ≡ blocks.Most → high ≡ m
     high_most e =
-        ap (λ b. if has_most b
-        then m else (if seeks_highest step.settings then max 3 (length step.factors + 1) else 3)) e
+        cc
 
     -- where the highest resolution is, they are for 3 and up
     low_highest : step.settings.criterion ≡ Highest → low ≡ 3
-    low_highest e = ap (λ b. if b then 1 else 3) (highest_not_most e)
+    low_highest e = cc (highest_not_most e)
 
     high_highest : step.settings.criterion ≡ Highest → step.settings.least ≡ false
         → high ≡ max 3 (length step.factors + 1)
     high_highest e plain =
-        ap (λ b. if b
-        then m else (if seeks_highest step.settings then max 3 (length step.factors + 1) else 3))
-        (highest_not_most e)
-        ∙ ap (λ b. if b then max 3 (length step.factors + 1) else 3) (seeks plain e)
+        cc (highest_not_most e, seeks plain e)
 
   abbrev d : Dimensions
   d = (outcome_of step).dimensions
@@ -259,17 +251,16 @@ module _ (step : Meaning) (valid : IsValidStep step) where
       → is_met (question n).dimensions step.requirement rows ≡ true
   unfolding is_met
   met_required n rows three met = elim (highest_or step.settings.criterion) [
-    | inr other ↦ subst (λ wanted. is_met (question n).dimensions wanted rows ≡ true) (requires_same n other) met
+    | inr other ↦ rw (requires_same n other) at met
     | inl e ↦ elim (cases_Bool step.settings.least) [
-      | inl least ↦ subst (λ wanted. is_met (question n).dimensions wanted rows ≡ true) (requires_least n least) met
+      | inl least ↦ rw (requires_least n least) at met
       | inr plain ↦
-          let from : 3 ≤ n = three e in
-          let at : is_met (question n).dimensions (AtResolution n) rows ≡ true =
-          subst (λ wanted. is_met (question n).dimensions wanted rows ≡ true) (requires_resolution n plain e) met in
-          subst (λ wanted. is_met (question n).dimensions wanted rows ≡ true) (sym (least_required e))
-          (meet_less (question n).dimensions field (AtResolution n) (AtResolution 3) _ (record {
-            balance = λ u hu h. (h.0, omega (arith, h.1, from));
-            estimate = λ u hu h. (h.0, omega (arith, h.1, from));
+          let from = three e in
+          let at =
+          rw (requires_resolution n plain e) at met in
+          rw (least_required e) (meet_less (question n).dimensions field (AtResolution n) (AtResolution 3) _ (record {
+            balance = λ u hu h. (h.0, omega arith);
+            estimate = λ u hu h. (h.0, omega arith);
           }) at)
     ]
   ]
@@ -280,37 +271,36 @@ module _ (step : Meaning) (valid : IsValidStep step) where
       → step.settings.size ≡ Minimum
       → (least_exponent step.settings.blocks ≤ n) × (n ≤ greatest q)
   own_fits n from upto e =
-      let low : lowest step step.settings.size ≡ least_exponent step.settings.blocks = ap (lowest step) e in
-      let high : asked.highest step step.settings.size ≡ greatest q = ap (asked.highest step) e in
+      let low : lowest step step.settings.size ≡ least_exponent step.settings.blocks = cc in
+      let high : asked.highest step step.settings.size ≡ greatest q = cc in
       let fits = exponent_fits q step.settings.size step.settings.blocks level given in
-      (omega (arith, from, low), elim upto [ inl h ↦ omega (arith, h, high) | inr h ↦ omega (arith, h, low, fits) ])
+      (omega (arith, low), elim upto [ inl h ↦ omega (arith, high) | inr h ↦ omega (arith, low) ])
 
   own_some : (n : ℕ) → lowest step step.settings.size ≤ n → step.settings.blocks ≡ blocks.Most → 1 ≤ n
   own_some n from most = elim (size_or step.settings.size) [
     | inl least ↦ absurd (most_fixed most least)
     | inr fixed ↦
-        let is : lowest step step.settings.size ≡ low fixed.0 fixed.1 = ap (lowest step) fixed.1 in
-        omega (arith, from, is, low_most fixed.0 fixed.1 most)
+        let is : lowest step step.settings.size ≡ low fixed.0 fixed.1 = cc in
+        omega (arith, low_most fixed.0 fixed.1 most)
   ]
 
   own_three : (n : ℕ) → lowest step step.settings.size ≤ n → step.settings.criterion ≡ Highest → 3 ≤ n
   own_three n from e = elim (size_or step.settings.size) [
     | inl least ↦ absurd (highest_fixed e least)
     | inr fixed ↦
-        let is : lowest step step.settings.size ≡ low fixed.0 fixed.1 = ap (lowest step) fixed.1 in
-        omega (arith, from, is, low_highest fixed.0 fixed.1 e)
+        let is : lowest step step.settings.size ≡ low fixed.0 fixed.1 = cc in
+        omega (arith, low_highest fixed.0 fixed.1 e)
   ]
 
   -- the matrix is of one of the step's questions
   pub what_it_asks : OfOutcome HasWhatItAsks step
   what_it_asks rows e =
       let each = each-of_step step in
-      let own = left-of (IsQuestionOf step) (questions_of step) step.settings.budget rows each.0 each.1 e in
-      let n : ℕ = own.holds.n in
-      let is : own.question ≡ question n = own.holds.is in
+      let own = left-of _ _ step.settings.budget rows each.0 each.1 e in
+      let n = own.holds.n in
       let met =
-      left_met (question n) field rows (subst (λ (p : Problem). IsLeftOf p rows) is own.left) in
-      subst (λ d. IsAsItAsks step d rows) (sym (own.dimensions ∙ ap (λ (p : Problem). p.dimensions) is)) (record {
+      left_met _ field rows (rw own.holds.is at own.left) in
+      rw (own.dimensions ∙ ap (λ p. p.dimensions) own.holds.is) (record {
         allowed = allowed n (own_fits n own.holds.from own.holds.upto) (own_some n own.holds.from);
         whole = met.0;
         met = met_required n rows (own_three n own.holds.from) met.1;
@@ -319,8 +309,8 @@ module _ (step : Meaning) (valid : IsValidStep step) where
   pub none_left : OfOutcome LeavesNoneOfLeastSize step
   none_left left budget least e =
       let each = each-of_step step in
-      none-left (IsQuestionOf step) (λ p own. ap (λ (p : Problem). p.least) own.is ∙ (with_least_size least).1)
-      (questions_of step) step.settings.budget left budget (ap until least) each.0 each.1 e
+      none-left _ (λ p own. ap (λ p. p.least) own.is ∙ (with_least_size least).1)
+      _ step.settings.budget left budget (ap until least) each.0 each.1 e
 
   pub least_of_all : OfOutcome HasLeastOfAll step
   least_of_all rows count least e = elim (size_or step.settings.size) [
@@ -328,8 +318,8 @@ module _ (step : Meaning) (valid : IsValidStep step) where
     | inr fixed ↦
         let m = fixed.0 in
         let h = last_found m fixed.1 rows count e in
-        let dims : d ≡ (question h.n).dimensions =
-        ap (λ (c : Conclusion). c.dimensions) (is_fixed m fixed.1) ∙ h.answers.dimensions in
+        let dims =
+        ap (λ c. c.dimensions) (is_fixed m fixed.1) ∙ h.answers.dimensions in
         subst (λ d. HasLeastPattern d step.requirement rows) (sym dims)
         (subst (λ wanted. HasLeastPattern (question h.n).dimensions wanted rows) (requires_least h.n least)
         (λ factors blocks matrix met. least-of_all (question h.n) field
@@ -345,10 +335,10 @@ module _ (step : Meaning) (valid : IsValidStep step) where
   one_size m fixed rows count other e h less =
       let last = last_found m fixed rows count e in
       let dims : d ≡ (question last.n).dimensions =
-      ap (λ (c : Conclusion). c.dimensions) (is_fixed m fixed) ∙ last.answers.dimensions in
-      let runs : d.m ≡ m = ap (λ (d : Dimensions). d.m) dims ∙ ap (λ size. run_factors size last.n) fixed in
-      let own : other.m ≡ m = h.runs ∙ ap (λ size. run_factors size other.m) fixed in
-      omega (arith, less, runs, own)
+      cc (is_fixed m fixed) in
+      let runs : d.m ≡ m = cc in
+      let own : other.m ≡ m = cc in
+      omega arith
 
   -- where each smaller size that it allows has no answer
   pub least_size : OfOutcome HasLeastSize step
@@ -356,15 +346,14 @@ module _ (step : Meaning) (valid : IsValidStep step) where
     | inl least ↦
         let first = first_found least rows count e in
         let dims : d ≡ (question first.n).dimensions =
-        ap (λ (c : Conclusion). c.dimensions) (is_least least) ∙ first.answers.dimensions in
-        let runs : d.m ≡ first.n = ap (λ (d : Dimensions). d.m) dims ∙ ap (λ size. run_factors size first.n) least in
+        cc (is_least least) in
+        let runs : d.m ≡ first.n = cc in
         let facts = with_least_size least in
-        subst (λ d. NoneMeets d step.requirement)
-        (allowed_is other other.m h (ap (λ size. run_factors size other.m) least)
-        (same_blocks step.settings.blocks other.m other.m other.t facts.2 ∙ sym h.blocks))
+        rw (← (allowed_is other other.m h (cc)
+        (cc (same_blocks step.settings.blocks other.m other.m other.t facts.2))))
         (unanswered other.m step.requirement (requires_same other.m facts.0)
         reducible
-        (first.none_before other.m (h.sizes least).0 (omega (arith, less, runs))))
+        (first.none_before other.m (h.sizes least).0 (omega arith)))
     | inr fixed ↦ absurd (one_size fixed.0 fixed.1 rows count other e h less)
   ]
 
@@ -374,7 +363,7 @@ module _ (step : Meaning) (valid : IsValidStep step) where
   one_more m fixed most n =
       let at = λ (m n : ℕ). ap (λ b. block_factors b m n) most in
       let runs = λ (n : ℕ). ap (λ size. run_factors size n) fixed in
-      same_dimensions (question (n + 1)).dimensions (with_block (question n).dimensions) refl
+      same_dimensions (question (n + 1)).dimensions _ refl
       (runs (n + 1) ∙ sym (runs n)) refl
       (at (run_factors step.settings.size (n + 1)) (n + 1)
       ∙ sym (ap (λ t. t + 1) (at (run_factors step.settings.size n) n)))
@@ -386,69 +375,64 @@ module _ (step : Meaning) (valid : IsValidStep step) where
     | inr fixed ↦
         let m = fixed.0 in
         let last = last_found m fixed.1 rows count e in
-        let n : ℕ = last.n in
+        let n = last.n in
         let dims : d ≡ (question n).dimensions =
-        ap (λ (c : Conclusion). c.dimensions) (is_fixed m fixed.1) ∙ last.answers.dimensions in
+        cc (is_fixed m fixed.1) in
         let at = λ (m n : ℕ). ap (λ b. block_factors b m n) most in
         let runs = λ (n : ℕ). ap (λ size. run_factors size n) fixed.1 in
-        let own : (question n).dimensions.t ≡ n = at (run_factors step.settings.size n) n in
-        let above : (question n).dimensions.t < other.t = subst (λ (d : Dimensions). d.t < other.t) dims more in
+        let own = at (run_factors step.settings.size n) n in
+        let above = rw dims at more in
         let none : NoneMeets (with_block (question n).dimensions) step.requirement
         ⊎ ((question n).dimensions.m ≤ (question n).dimensions.t) =
         elim last.none_next [
-          | inl end ↦ inr (omega (arith, end, high_most m fixed.1 most, runs n, own))
+          | inl end ↦ inr (omega (arith, high_most m fixed.1 most, runs n))
           | inr unmet ↦ inl (subst (λ d. NoneMeets d step.requirement) (one_more m fixed.1 most n)
-              (unanswered (n + 1) step.requirement
+              (unanswered _ step.requirement
               (requires_same (n + 1) (most_not_highest most)) reducible unmet))
         ] in
-        let same : with_blocks (question n).dimensions other.t ≡ other =
-        same_dimensions (with_blocks (question n).dimensions other.t) other (sym h.levels)
-        (runs n ∙ sym (h.runs ∙ ap (λ size. run_factors size other.m) fixed.1)) (sym h.factors) refl in
-        subst (λ d. NoneMeets d step.requirement) same
-        (most-blocks (question n).dimensions field step.requirement none other.t above)
+        let same =
+        same_dimensions (with_blocks (question n).dimensions other.t) other (cc)
+        (cc (runs n)) (cc) refl in
+        rw (← same) (most-blocks (question n).dimensions field step.requirement none other.t above)
   ]
 
   next_highest : (m : ℕ) → step.settings.size ≡ Runs m → step.settings.criterion ≡ Highest → (n : ℕ)
       → (question (n + 1)).dimensions ≡ (question n).dimensions
   next_highest m fixed e n =
       let runs = λ (n : ℕ). ap (λ size. run_factors size n) fixed in
-      let same : run_factors step.settings.size (n + 1) ≡ run_factors step.settings.size n =
+      let same =
       runs (n + 1) ∙ sym (runs n) in
       same_dimensions (question (n + 1)).dimensions (question n).dimensions refl same refl
-      (ap (λ m. block_factors step.settings.blocks m (n + 1)) same
-      ∙ same_blocks step.settings.blocks (run_factors step.settings.size n) (n + 1) n (highest_not_most e))
+      (cc (same_blocks step.settings.blocks (run_factors step.settings.size n) (n + 1) n (highest_not_most e)))
 
   -- where the question for the next resolution has no answer, or there is no word
   pub highest_of_all : OfOutcome HasHighestOfAll step
   highest_of_all rows count e without ends = elim (size_or step.settings.size) [
     | inl least ↦ absurd (highest_fixed e least)
     | inr fixed ↦
-        let m = fixed.0 in
-        let last = last_found m fixed.1 rows count ends in
-        let n : ℕ = last.n in
-        let dims : d ≡ (question n).dimensions =
-        ap (λ (c : Conclusion). c.dimensions) (is_fixed m fixed.1) ∙ last.answers.dimensions in
-        let own = answered n rows last.answers.answer_is in
-        let plain_blocks : (question n).dimensions.t ≡ 0 =
-        ap (λ b. block_factors b (run_factors step.settings.size n) n) (unblocked step.settings.blocks without) in
-        subst (λ d. HighestOfAll d rows) (sym dims) (elim (cases_Bool step.settings.least) [
+        let last = last_found fixed.0 fixed.1 rows count ends in
+        let dims : d ≡ (question last.n).dimensions =
+        cc (is_fixed fixed.0 fixed.1) in
+        let own = answered last.n rows last.answers.answer_is in
+        let plain_blocks : (question last.n).dimensions.t ≡ 0 =
+        cc (unblocked step.settings.blocks without) in
+        rw dims (elim (cases_Bool step.settings.least) [
           | inl least ↦
-              let wanted : step.requirement ≡ AtResolution 3 = least_required e in
-              highest-least (question n).dimensions field 3 rows plain_blocks own.0
-              (subst (λ wanted. is_met (question n).dimensions wanted rows ≡ true) (requires_least n least ∙ wanted)
-              own.1)
-              (subst (λ wanted. HasLeastPattern (question n).dimensions wanted rows) wanted
-              (subst (λ d. HasLeastPattern d step.requirement rows) dims (least_of_all rows count least ends)))
+              let wanted = least_required e in
+              highest-least (question last.n).dimensions field 3 rows plain_blocks own.0
+              (rw (requires_least last.n least ∙ wanted) at own.1)
+              (subst (λ wanted. HasLeastPattern (question last.n).dimensions wanted rows) wanted
+              (rw dims at (least_of_all rows count least ends)))
           | inr plain ↦
-              let is : (question n).requirement ≡ AtResolution n = requires_resolution n plain e in
-              let from : 3 ≤ n = subst (λ k. k ≤ n) (low_highest m fixed.1 e) last.from in
-              highest (question n).dimensions field n rows plain_blocks own.0
-              (subst (λ wanted. is_met (question n).dimensions wanted rows ≡ true) is own.1)
+              let from = rw (low_highest fixed.0 fixed.1 e) at last.from in
+              highest (question last.n).dimensions field last.n rows plain_blocks own.0
+              (rw (requires_resolution last.n plain e) at own.1)
               (elim last.none_next [
-                | inl end ↦ inr (omega (arith, end, high_highest m fixed.1 e plain))
-                | inr unmet ↦ inl (subst (λ d. NoneMeets d (AtResolution (n + 1))) (next_highest m fixed.1 e n)
-                    (unanswered (n + 1) (AtResolution (n + 1)) (requires_resolution (n + 1) plain e)
-                    (omega (arith, from)) unmet))
+                | inl end ↦ inr (omega (arith, high_highest fixed.0 fixed.1 e plain))
+                | inr unmet ↦
+                    inl (subst (λ d. NoneMeets d (AtResolution (last.n + 1))) (next_highest fixed.0 fixed.1 e last.n)
+                    (unanswered _ _ (requires_resolution (last.n + 1) plain e)
+                    (omega arith) unmet))
               ])
         ])
   ]
@@ -459,8 +443,7 @@ module _ (step : Meaning) (valid : IsValidStep step) where
       → (rows : List ℕ) (last : IsOfLast question (low m fixed) (high m fixed) step.settings.budget rows)
       → (outcome_of step).reached ≡ last.n
   reached_is m fixed e plain rows last =
-      ap (λ (c : Conclusion). c.reached) (is_fixed m fixed) ∙ last.answers.reached
-      ∙ ap resolution_wanted (requires_resolution last.n plain e)
+      cc (is_fixed m fixed, requires_resolution last.n plain e)
 
   pub meets_reached : OfOutcome MeetsWhatItReached step
   meets_reached rows e some ends =
@@ -470,14 +453,14 @@ module _ (step : Meaning) (valid : IsValidStep step) where
       let n : ℕ = own.holds.n in
       let is : own.question ≡ question n = own.holds.is in
       let asks : (question n).requirement ≡ AtResolution n = requires_resolution n plain e in
-      let reached : (outcome_of step).reached ≡ n =
+      let reached =
       own.reached (λ p one. ap (λ (p : Problem). p.least) one.is ∙ plain)
-      ∙ ap resolution_wanted (ap (λ (p : Problem). p.requirement) is ∙ asks) in
-      let met = left_met (question n) field rows (subst (λ (p : Problem). IsLeftOf p rows) is own.left) in
-      let at : is_met (question n).dimensions (AtResolution n) rows ≡ true =
-      subst (λ wanted. is_met (question n).dimensions wanted rows ≡ true) asks met.1 in
-      let dims : d ≡ (question n).dimensions = own.dimensions ∙ ap (λ (p : Problem). p.dimensions) is in (
-        subst (λ r. 3 ≤ r) (sym reached) (own_three n own.holds.from e),
+      ∙ ap resolution_wanted (ap (λ p. p.requirement) is ∙ asks) in
+      let met = left_met _ field rows (rw is at own.left) in
+      let at =
+      rw asks at met.1 in
+      let dims = own.dimensions ∙ ap (λ p. p.dimensions) is in (
+        rw reached (own_three n own.holds.from e),
         subst (λ d. is_met d (AtResolution (outcome_of step).reached) rows ≡ true) (sym dims)
             (subst (λ r. is_met (question n).dimensions (AtResolution r) rows ≡ true) (sym reached) at),
       )
@@ -487,45 +470,41 @@ module _ (step : Meaning) (valid : IsValidStep step) where
   highest_in_blocks rows count e some ends = elim (size_or step.settings.size) [
     | inl least ↦ absurd (highest_fixed e least)
     | inr fixed ↦
-        let m = fixed.0 in
         let plain = plain_in_blocks some in
-        let last = last_found m fixed.1 rows count ends in
-        let n : ℕ = last.n in
-        let top : high m fixed.1 ≡ max 3 (length step.factors + 1) = high_highest m fixed.1 e plain in
+        let last = last_found fixed.0 fixed.1 rows count ends in
+        let n = last.n in
+        let top = high_highest fixed.0 fixed.1 e plain in
         let dims : d ≡ (question n).dimensions =
-        ap (λ (c : Conclusion). c.dimensions) (is_fixed m fixed.1) ∙ last.answers.dimensions in
+        cc (is_fixed fixed.0 fixed.1) in
         let own : IsHighestInBlocks (question n).dimensions rows n = record {
-          from = subst (λ k. k ≤ n) (low_highest m fixed.1 e) last.from;
-          upto = subst (λ k. n ≤ k) top
-              (last.upto (let low_is = low_highest m fixed.1 e in omega (arith, low_is, top)));
+          from = rw (low_highest fixed.0 fixed.1 e) at last.from;
+          upto = rw top at (last.upto (let low_is = low_highest fixed.0 fixed.1 e in omega arith));
           met =
-              subst (λ wanted. is_met (question n).dimensions wanted rows ≡ true) (requires_resolution n plain e)
-              (answered n rows last.answers.answer_is).1;
+              rw (requires_resolution n plain e) at (answered n rows last.answers.answer_is).1;
           none_above = λ k more upto. elim last.none_next [
             | inl end ↦
-                let cap : k ≤ max 3 (length step.factors + 1) = upto in absurd (omega (arith, end, top, more, cap))
+                absurd (omega arith)
             | inr unmet ↦
-                none-higher (question n).dimensions field (n + 1) k (omega (arith, more))
-                (subst (λ d. NoneMeets d (AtResolution (n + 1))) (next_highest m fixed.1 e n)
-                (unanswered (n + 1) (AtResolution (n + 1)) (requires_resolution (n + 1) plain e)
-                (let from : 3 ≤ n = subst (λ k. k ≤ n) (low_highest m fixed.1 e) last.from in omega (arith, from))
+                none-higher (question n).dimensions field (n + 1) k (omega arith)
+                (subst (λ d. NoneMeets d (AtResolution (n + 1))) (next_highest fixed.0 fixed.1 e n)
+                (unanswered _ _ (requires_resolution (n + 1) plain e)
+                (let from = rw (low_highest fixed.0 fixed.1 e) at last.from in omega arith)
                 unmet))
           ];
         } in
-        subst (λ d. IsHighestInBlocks d rows (outcome_of step).reached) (sym dims)
-        (subst (IsHighestInBlocks (question n).dimensions rows)
-        (sym (reached_is m fixed.1 e plain rows last)) own)
+        rw dims (subst (IsHighestInBlocks (question n).dimensions rows)
+        (sym (reached_is fixed.0 fixed.1 e plain rows last)) own)
   ]
 
   -- of a fixed size the first question requires what the step does
   requires_first : (m : ℕ) (fixed : step.settings.size ≡ Runs m)
       → (question (low m fixed)).requirement ≡ step.requirement
   requires_first m fixed = elim (highest_or step.settings.criterion) [
-    | inr other ↦ requires_same (low m fixed) other
+    | inr other ↦ requires_same _ other
     | inl e ↦ elim (cases_Bool step.settings.least) [
-      | inl least ↦ requires_least (low m fixed) least
+      | inl least ↦ requires_least _ least
       | inr plain ↦
-          requires_resolution (low m fixed) plain e ∙ ap AtResolution (low_highest m fixed e) ∙ sym (least_required e)
+          cc (requires_resolution (low m fixed) plain e, low_highest m fixed e, least_required e)
     ]
   ]
 
@@ -533,24 +512,22 @@ module _ (step : Meaning) (valid : IsValidStep step) where
       → answer (question (low m fixed)) ≡ None
       → NoneMeets other step.requirement
   none_fixed other h m fixed unmet =
-      let n : ℕ = low m fixed in
-      let none : NoneMeets (question n).dimensions step.requirement =
+      let n = low m fixed in
+      let none =
       unanswered n step.requirement (requires_first m fixed) reducible unmet in
       let runs = λ (n : ℕ). ap (λ size. run_factors size n) fixed in
-      let same_runs : run_factors step.settings.size n ≡ other.m = runs n ∙ sym (h.runs ∙ runs other.m) in
+      let same_runs = runs n ∙ sym (h.runs ∙ runs other.m) in
       elim (most_or step.settings.blocks) [
         | inr plain ↦
-            subst (λ d. NoneMeets d step.requirement)
-            (allowed_is other n h same_runs (same_blocks step.settings.blocks other.m n other.t plain ∙ sym h.blocks))
-            none
+            rw (← (allowed_is other n h same_runs (cc (same_blocks step.settings.blocks other.m n other.t plain)))) none
         | inl most ↦
             let own : (question n).dimensions.t ≡ 1 =
-            ap (λ b. block_factors b (run_factors step.settings.size n) n) most ∙ low_most m fixed most in
+            cc (most, low_most m fixed most) in
             let from : 1 ≤ other.t = h.some_blocks most in
             let same : with_blocks (question n).dimensions other.t ≡ other =
             same_dimensions (with_blocks (question n).dimensions other.t) other (sym h.levels) same_runs (sym h.factors)
             refl in
-            subst (λ d. NoneMeets d step.requirement) same
+            rw (← same)
             (none-with_more (question n).dimensions field step.requirement other.t (omega (arith, own, from)) none)
       ]
 
@@ -559,13 +536,12 @@ module _ (step : Meaning) (valid : IsValidStep step) where
   none_at_all count other e h = elim (size_or step.settings.size) [
     | inl least ↦
         let facts = with_least_size least in
-        subst (λ d. NoneMeets d step.requirement)
-        (allowed_is other other.m h (ap (λ size. run_factors size other.m) least)
-        (same_blocks step.settings.blocks other.m other.m other.t facts.2 ∙ sym h.blocks))
+        rw (← (allowed_is other other.m h (cc)
+        (cc (same_blocks step.settings.blocks other.m other.m other.t facts.2))))
         (unanswered other.m step.requirement (requires_same other.m facts.0)
         reducible
         (none_found least count e other.m (h.sizes least).0
-        (subst (λ q. other.m ≤ greatest q) h.levels (h.sizes least).1)))
+        (rw h.levels at (h.sizes least).1)))
     | inr fixed ↦ none_fixed other h fixed.0 fixed.1 (first_none fixed.0 fixed.1 count e)
   ]
 
@@ -592,12 +568,11 @@ module _ (step : Meaning) (valid : IsValidStep step) where
   place_of : (n : ℕ) → lowest step step.settings.size ≤ n → n ≤ asked.highest step step.settings.size → IsBefore n
       → slice_get (asked.asked (questions_of step)) (n - lowest step step.settings.size) ≡ Some (question n)
   place_of n from top on =
-      let low : ℕ = lowest step step.settings.size in
-      let i : ℕ = n - low in
-      let is : low + i ≡ n = omega (arith, from) in
-      asked_at question (until step.settings.size) low (suc (asked.highest step step.settings.size - low)) i
-      (omega (arith, from, top)) (λ j less. on (low + j) (omega arith) (omega (arith, less, is)))
-      ∙ ap (λ k. Some (question k)) is
+      let low = lowest step step.settings.size in
+      let i = n - low in
+      let is : low + i ≡ n = omega arith in
+      cc (asked_at question (until step.settings.size) low (suc (asked.highest step step.settings.size - low)) i
+      (omega arith) (λ j less. on (low + j) (omega arith) (omega arith)))
 
   asked_for : (n : ℕ) (d : Dimensions) (wanted : Requirement) (own : Option (List ℕ))
       → lowest step step.settings.size ≤ n
@@ -620,17 +595,16 @@ module _ (step : Meaning) (valid : IsValidStep step) where
   before_fixed : (m : ℕ) (fixed : step.settings.size ≡ Runs m) (n : ℕ)
       → ((k : ℕ) → low m fixed ≤ k → k < n → is_some (answer (question k)) ≡ true) → IsBefore n
   before_fixed m fixed n some k from below =
-      let is : lowest step step.settings.size ≡ low m fixed = ap (lowest step) fixed in
-      ap (λ size. is_last (until size) (question k)) fixed ∙ ap not (some k (omega (arith, from, is)) below)
+      let is : lowest step step.settings.size ≡ low m fixed = cc in
+      cc (some k (omega arith) below)
 
   -- of the least size each question before the first answer has none
   before_least : (least : step.settings.size ≡ Minimum) (rows : List ℕ)
       (first : IsOfFirst question (least_exponent step.settings.blocks) (greatest q) step.settings.budget rows) (n : ℕ)
       → n ≤ first.n → IsBefore n
   before_least least rows first n upto k from below =
-      let is : lowest step step.settings.size ≡ least_exponent step.settings.blocks = ap (lowest step) least in
-      ap (λ size. is_last (until size) (question k)) least
-      ∙ ap is_some (first.none_before k (omega (arith, from, is)) (omega (arith, below, upto)))
+      let is : lowest step step.settings.size ≡ least_exponent step.settings.blocks = cc in
+      cc (first.none_before k (omega arith) (omega arith))
 
   -- the question after the last that has an answer, if it is asked
   next_asked : (m : ℕ) (fixed : step.settings.size ≡ Runs m) (rows : List ℕ)
@@ -642,14 +616,14 @@ module _ (step : Meaning) (valid : IsValidStep step) where
   next_asked m fixed rows last d wanted dims requires = elim (cases_lt last.n (high m fixed)) [
     | inr end ↦ inl end
     | inl more ↦ elim last.none_next [
-      | inl end ↦ absurd (omega (arith, end, more))
+      | inl end ↦ absurd (omega arith)
       | inr unmet ↦
-          let lowest_is : lowest step step.settings.size ≡ low m fixed = ap (lowest step) fixed in
-          let highest_is : asked.highest step step.settings.size ≡ high m fixed = ap (asked.highest step) fixed in
+          let lowest_is : lowest step step.settings.size ≡ low m fixed = cc in
+          let highest_is : asked.highest step step.settings.size ≡ high m fixed = cc in
           inr (
             unmet,
-            asked_for (last.n + 1) d wanted None (omega (arith, last.from, lowest_is)) (omega (arith, more, highest_is))
-                (before_fixed m fixed (last.n + 1) (λ k from below. last.some_upto k from (omega (arith, below)))) dims
+            asked_for (last.n + 1) d wanted None (omega arith) (omega arith)
+                (before_fixed m fixed _ (λ k from below. last.some_upto k from (omega arith))) dims
                 requires unmet,
           )
     ]
@@ -662,20 +636,16 @@ module _ (step : Meaning) (valid : IsValidStep step) where
   least_asked rows count least e = elim (size_or step.settings.size) [
     | inl small ↦ absurd (both_ways _ (with_least_size small).1 least)
     | inr fixed ↦
-        let m = fixed.0 in
-        let last = last_found m fixed.1 rows count e in
-        let n : ℕ = last.n in
-        let lowest_is : lowest step step.settings.size ≡ low m fixed.1 = ap (lowest step) fixed.1 in
-        let highest_is : asked.highest step step.settings.size ≡ high m fixed.1 = ap (asked.highest step) fixed.1 in
-        let some : low m fixed.1 ≤ high m fixed.1 =
-        subst (λ size. lowest step size ≤ asked.highest step size) fixed.1
-        (some_numbers step valid (lowest step step.settings.size) refl) in
-        let dims : d ≡ (question n).dimensions =
-        ap (λ (c : Conclusion). c.dimensions) (is_fixed m fixed.1) ∙ last.answers.dimensions in
-        asked_for n d step.requirement (Some rows) (omega (arith, last.from, lowest_is))
-        (omega (arith, last.upto some, highest_is))
-        (before_fixed m fixed.1 n (λ k from below. last.some_upto k from (omega (arith, below)))) (sym dims)
-        (requires_least n least) last.answers.answer_is
+        let last = last_found fixed.0 fixed.1 rows count e in
+        let lowest_is : lowest step step.settings.size ≡ low fixed.0 fixed.1 = cc in
+        let highest_is : asked.highest step step.settings.size ≡ high fixed.0 fixed.1 = cc in
+        let some =
+        rw fixed.1 at (some_numbers step valid (lowest step step.settings.size) refl) in
+        asked_for last.n d step.requirement _ (omega arith)
+        (omega (arith, last.upto some))
+        (before_fixed fixed.0 fixed.1 last.n (λ k from below. last.some_upto k from (omega arith)))
+        (sym (cc (is_fixed fixed.0 fixed.1)))
+        (requires_least last.n least) last.answers.answer_is
   ]
 
   -- behind the highest resolution that for the next, unless there are no defining words
@@ -690,31 +660,29 @@ module _ (step : Meaning) (valid : IsValidStep step) where
         let m = fixed.0 in
         let last = last_found m fixed.1 rows count ends in
         let n : ℕ = last.n in
-        let dims : d ≡ (question n).dimensions =
-        ap (λ (c : Conclusion). c.dimensions) (is_fixed m fixed.1) ∙ last.answers.dimensions in
+        let dims =
+        ap (λ c. c.dimensions) (is_fixed m fixed.1) ∙ last.answers.dimensions in
         let own = answered n rows last.answers.answer_is in
         let from : 3 ≤ n = subst (λ k. k ≤ n) (low_highest m fixed.1 e) last.from in
         let plain_blocks : d.t ≡ 0 =
-        ap (λ (d : Dimensions). d.t) dims
-        ∙ ap (λ b. block_factors b (run_factors step.settings.size n) n) (unblocked step.settings.blocks without) in
-        let field_d : IsField d.q = subst (λ (d : Dimensions). IsField d.q) (sym dims) field in
+        cc (dims, unblocked step.settings.blocks without) in
+        let field_d = subst (λ (d : Dimensions). IsField d.q) (sym dims) field in
         let whole : length rows ≡ d.s + d.t =
-        subst (λ (d : Dimensions). length rows ≡ d.s + d.t) (sym dims) own.0 in
+        rw dims own.0 in
         let met : is_met d (AtResolution n) rows ≡ true =
-        subst (λ d. is_met d (AtResolution n) rows ≡ true) (sym dims)
-        (subst (λ wanted. is_met (question n).dimensions wanted rows ≡ true) (requires_resolution n plain e) own.1) in
-        elim (next_asked m fixed.1 rows last d (AtResolution (n + 1)) (next_highest m fixed.1 e n ∙ sym dims)
+        rw dims (rw (requires_resolution n plain e) at own.1) in
+        elim (next_asked m fixed.1 rows last d (AtResolution (n + 1)) (cc (next_highest m fixed.1 e n))
         (requires_resolution (n + 1) plain e)) [
           | inl end ↦
-              let factors : d.s ≡ length step.factors = ap (λ (d : Dimensions). d.s) dims in
+              let factors : d.s ≡ length step.factors = cc in
               inl (full_resolution d field_d rows n plain_blocks whole met
-              (omega (arith, end, high_highest m fixed.1 e plain, factors)))
+              (omega (arith, high_highest m fixed.1 e plain)))
           | inr next ↦ elim (exact_resolution d field_d rows n plain_blocks whole met
-              (subst (λ d. NoneMeets d (AtResolution (n + 1))) (next_highest m fixed.1 e n ∙ sym dims)
-              (unanswered (n + 1) (AtResolution (n + 1)) (requires_resolution (n + 1) plain e) (omega (arith, from))
+              (rw (← (next_highest m fixed.1 e n ∙ sym dims))
+              (unanswered (n + 1) (AtResolution (n + 1)) (requires_resolution (n + 1) plain e) (omega arith)
               next.0))) [
                 | inl full ↦ inl full
-                | inr is ↦ inr (subst (λ r. IsAsked step d (AtResolution (r + 1)) None) (sym is) next.1)
+                | inr is ↦ inr (rw (← is) at next.1)
               ]
         ]
   ]
@@ -728,24 +696,20 @@ module _ (step : Meaning) (valid : IsValidStep step) where
   next_in_blocks_asked rows count e some ends = elim (size_or step.settings.size) [
     | inl least ↦ absurd (highest_fixed e least)
     | inr fixed ↦
-        let m = fixed.0 in
         let plain = plain_in_blocks some in
-        let last = last_found m fixed.1 rows count ends in
-        let n : ℕ = last.n in
-        let reached : (outcome_of step).reached ≡ n = reached_is m fixed.1 e plain rows last in
-        let dims : d ≡ (question n).dimensions =
-        ap (λ (c : Conclusion). c.dimensions) (is_fixed m fixed.1) ∙ last.answers.dimensions in
-        elim (next_asked m fixed.1 rows last d (AtResolution (n + 1)) (next_highest m fixed.1 e n ∙ sym dims)
-        (requires_resolution (n + 1) plain e)) [
+        let last = last_found fixed.0 fixed.1 rows count ends in
+        let reached = reached_is fixed.0 fixed.1 e plain rows last in
+        let dims : d ≡ (question last.n).dimensions =
+        cc (is_fixed fixed.0 fixed.1) in
+        elim (next_asked fixed.0 fixed.1 rows last d _ (cc (next_highest fixed.0 fixed.1 e last.n))
+        (requires_resolution (last.n + 1) plain e)) [
           | inl end ↦
-              let top : high m fixed.1 ≡ max 3 (length step.factors + 1) = high_highest m fixed.1 e plain in
-              let upto : (outcome_of step).reached ≤ max 3 (d.s + 1) =
+              let top = high_highest fixed.0 fixed.1 e plain in
+              let upto =
               (highest_in_blocks rows count e some ends).upto in
-              let factors : d.s ≡ length step.factors = ap (λ (d : Dimensions). d.s) dims in
-              let full : (outcome_of step).reached ≡ max 3 (d.s + 1) =
-              omega (arith, reached, end, top, upto, factors) in
-              inl full
-          | inr next ↦ inr (subst (λ r. IsAsked step d (AtResolution (r + 1)) None) (sym reached) next.1)
+              let factors : d.s ≡ length step.factors = cc in
+              inl (omega arith)
+          | inr next ↦ inr (rw (← reached) at next.1)
         ]
   ]
 
@@ -758,19 +722,19 @@ module _ (step : Meaning) (valid : IsValidStep step) where
     | inl least ↦
         let first = first_found least rows count e in
         let dims : d ≡ (question first.n).dimensions =
-        ap (λ (c : Conclusion). c.dimensions) (is_least least) ∙ first.answers.dimensions in
-        let runs : d.m ≡ first.n = ap (λ (d : Dimensions). d.m) dims ∙ ap (λ size. run_factors size first.n) least in
+        cc (is_least least) in
+        let runs : d.m ≡ first.n = cc in
         let facts = with_least_size least in
-        let low : lowest step step.settings.size ≡ least_exponent step.settings.blocks = ap (lowest step) least in
-        let high : asked.highest step step.settings.size ≡ greatest q = ap (asked.highest step) least in
-        let from : least_exponent step.settings.blocks ≤ other.m = (h.sizes least).0 in
-        let top : other.m ≤ greatest q = subst (λ q. other.m ≤ greatest q) h.levels (h.sizes least).1 in
-        asked_for other.m other step.requirement None (omega (arith, from, low)) (omega (arith, top, high))
-        (before_least least rows first other.m (omega (arith, less, runs)))
-        (allowed_is other other.m h (ap (λ size. run_factors size other.m) least)
-        (same_blocks step.settings.blocks other.m other.m other.t facts.2 ∙ sym h.blocks))
+        let low : lowest step step.settings.size ≡ least_exponent step.settings.blocks = cc in
+        let high : asked.highest step step.settings.size ≡ greatest q = cc in
+        let from = (h.sizes least).0 in
+        let top = rw h.levels at (h.sizes least).1 in
+        asked_for other.m other step.requirement None (omega (arith, low)) (omega (arith, high))
+        (before_least least rows first other.m (omega arith))
+        (allowed_is other other.m h (cc)
+        (cc (same_blocks step.settings.blocks other.m other.m other.t facts.2)))
         (requires_same other.m facts.0)
-        (first.none_before other.m from (omega (arith, less, runs)))
+        (first.none_before other.m from (omega arith))
     | inr fixed ↦ absurd (one_size fixed.0 fixed.1 rows count other e h less)
   ]
 
@@ -785,7 +749,7 @@ module _ (step : Meaning) (valid : IsValidStep step) where
         let last = last_found m fixed.1 rows count e in
         let n : ℕ = last.n in
         let dims : d ≡ (question n).dimensions =
-        ap (λ (c : Conclusion). c.dimensions) (is_fixed m fixed.1) ∙ last.answers.dimensions in
+        cc (is_fixed m fixed.1, last.answers.dimensions) in
         let same = requires_same n (most_not_highest most) in
         elim (next_asked m fixed.1 rows last (with_block d) step.requirement
         (one_more m fixed.1 most n ∙ ap with_block (sym dims))
@@ -793,14 +757,14 @@ module _ (step : Meaning) (valid : IsValidStep step) where
           | inl end ↦
               let own = answered n rows last.answers.answer_is in
               let blocks_are : (question n).dimensions.t ≡ n =
-              ap (λ b. block_factors b (run_factors step.settings.size n) n) most in
+              cc most in
               let runs : (question n).dimensions.m ≡ m = ap (λ size. run_factors size n) fixed.1 in
               let fewer =
               fewer_than_indexes (question n).dimensions field step.requirement
               (requirement-estimated (question n).dimensions field step.requirement reducible
               (leb-true 1 (length step.factors) (and_parts _ _ valid.factors).0) valid.effects) rows own.0
-              (subst (λ wanted. is_met (question n).dimensions wanted rows ≡ true) same own.1) in
-              absurd (omega (arith, end, high_most m fixed.1 most, runs, blocks_are, fewer))
+              (rw same at own.1) in
+              absurd (omega (arith, high_most m fixed.1 most))
           | inr next ↦ next.1
         ]
   ]

@@ -1,5 +1,5 @@
 -- The book of a question of a step, by what the search answers.
-use Rattle.std.proofs.Common.{ℕ, ◌≡◌, ◌||◌, true, false, List, [], ◌∷◌, ◌++◌, Some, None, is_some, sym, ap, ◌∙◌}
+use Rattle.std.proofs.Common.{ℕ, ◌≡◌, true, false, List, [], ◌∷◌, ◌++◌, Some, None, is_some, sym, ap, ◌∙◌}
 use Rattle.std.proofs.Common.{append-nil}
 use Rattle.std.specs.Prelude.{not}
 use Rattle.std.specs.Option.{option_map}
@@ -16,7 +16,7 @@ module _ (number : ℕ) (p : Problem) where
   with_book : (book : Book) → book ≡ book_for p → has_book p ≡ true
       → record { question = number; book = book } ∷ [] ≡ book_at number p
   with_book book is has =
-      ap (λ (b : Book). record { question = number; book = b } ∷ []) is ∙ sym (cond-true (has_book p) _ _ has)
+      ap (λ b. record { question = number; book = b } ∷ []) is ∙ sym (cond-true _ _ _ has)
 
   -- without an answer
   pub book_of_none : (book : Book) → book ≡ book_for p → answer p ≡ None
@@ -32,8 +32,8 @@ module _ (number : ℕ) (p : Problem) where
   pub no_book : (rows : List ℕ) (books : List NamedBook) → p.least ≡ false → answer p ≡ Some rows
       → books ≡ books ++ book_at number p
   no_book rows books plain is =
-      let none : has_book p ≡ false = ap (λ b. b || not (is_some (answer p))) plain ∙ ap (λ o. not (is_some o)) is in
-      sym (append-nil books) ∙ ap (λ (l : List NamedBook). books ++ l) (sym (cond-false (has_book p) _ _ none))
+      let none : has_book p ≡ false = cc in
+      sym (append-nil books) ∙ ap (λ l. books ++ l) (sym (cond-false _ _ _ none))
 
 -- the pattern to beat is that of the answer
 pub to_beat : (p : Problem) (rows beat : List ℕ) → p.least ≡ true → answer p ≡ Some rows

@@ -18,7 +18,7 @@ use Rattle.fx_reduction.proofs.LeastPattern.{answer-design}
 use Rattle.fx_reduction.proofs.Prefix.{met-prefix}
 use Rattle.fx_statements.specs.Questions.{Answered, Conclusion, Found, Questions, Turn, asked, concluded, conclusion_by}
 use Rattle.fx_statements.specs.Questions.{conclusion_of, cut_short, found_by, is_last, last_found, last_of, left_at}
-use Rattle.fx_statements.specs.Questions.{nodes_of, passes, reached_at, reached_beside, reached_by, resolution_wanted}
+use Rattle.fx_statements.specs.Questions.{nodes_of, passes, reached_at, reached_by, resolution_wanted}
 use Rattle.fx_statements.specs.Questions.{turns, up_to}
 use Rattle.fx_statements.proofs.Concluded.{HasEnding, InTurn, each_asked, kept_turn}
 use Rattle.fx_answer.specs.StepClaims.{rows_in}
@@ -26,19 +26,18 @@ use Rattle.fx_base.proofs.Options.{same_some}
 
 -- what is found of those that pass a test passes it
 found-kept : (E D : List ℕ → Bool) (xs : List (List ℕ)) (r : List ℕ) → find E (filter D xs) ≡ Some r → D r ≡ true
-found-kept E D [] r h = absurd (cc h)
+found-kept E D [] r h = cc h
 found-kept E D (x ∷ xs) r h = elim (cases_Bool (D x)) [
   | inl holds ↦
       let kept : find E (x ∷ filter D xs) ≡ Some r =
-      ap (find E) (sym (cond-true (D x) (x ∷ filter D xs) (filter D xs) holds)) ∙ h in
+      cc (cond-true _ (x ∷ filter D xs) (filter D xs) holds) in
       elim (cases_Bool (E x)) [
         | inl here ↦
-            subst (λ y. D y ≡ true)
-            (same_some (sym (cond-true (E x) (Some x) (find E (filter D xs)) here) ∙ kept)) holds
-        | inr other ↦ found-kept E D xs r (sym (cond-false (E x) (Some x) (find E (filter D xs)) other) ∙ kept)
+            rw (same_some (sym (cond-true _ (Some x) (find E (filter D xs)) here) ∙ kept)) at holds
+        | inr other ↦ found-kept E D xs r (cc (cond-false _ (Some x) (find E (filter D xs)) other))
       ]
   | inr fails ↦
-      found-kept E D xs r (ap (find E) (sym (cond-false (D x) (x ∷ filter D xs) (filter D xs) fails)) ∙ h)
+      found-kept E D xs r (cc (cond-false _ (x ∷ filter D xs) (filter D xs) fails))
 ]
 
 -- a matrix that is carried is complete and allowed
@@ -101,7 +100,7 @@ module _ (P : Problem → Type 0) where
       → IfLeft (last_found earlier ps)
   left_last earlier [] before all = before
   left_last earlier (p ∷ ps) before all =
-      left_last (found_by earlier p (answer p)) ps (left_by earlier p (answer p) (λ rows is. inl is) before all.0) all.1
+      left_last (found_by earlier p (answer p)) ps (left_by earlier p _ (λ rows is. inl is) before all.0) all.1
 
   -- these rows are of a question of the outcome's dimensions, whose resolution is reached where they are its answer
   pub record IsLeft (outcome : Conclusion) (rows : List ℕ) : Type 0 where
@@ -114,7 +113,7 @@ module _ (P : Problem → Type 0) where
   in_concluded : (p : Problem) (found : Option Found) (n : ℕ) (rows : List ℕ) → IfLeft found
       → rows_in (concluded p found n).ending ≡ Some rows
       → IsLeft (concluded p found n) rows
-  in_concluded p None n rows h e = absurd (cc e)
+  in_concluded p None n rows h e = cc e
   in_concluded p (Some found) n rows h e = record {
     question = found.question;
     holds = h.0;
@@ -127,7 +126,7 @@ module _ (P : Problem → Type 0) where
       → (ArePlain → reached ≡ reached_by left)
       → rows_in (cut_short p left reached budget).ending ≡ Some rows
       → IsLeft (cut_short p left reached budget) rows
-  in_cut_short p None reached budget rows h is e = absurd (cc e)
+  in_cut_short p None reached budget rows h is e = cc e
   in_cut_short p (Some found) reached budget rows h is e = record {
     question = found.question;
     holds = h.0;
@@ -141,10 +140,9 @@ module _ (P : Problem → Type 0) where
       → reached_at budget turn ≡ reached_by (left_at budget turn)
   reached_left budget turn one plain =
       let before = last_found None turn.earlier in
-      let none : carried turn.question (budget - nodes_of turn.earlier) ≡ None =
+      let none =
       none_carried turn.question (plain turn.question one) (budget - nodes_of turn.earlier) in
-      ap (λ left. reached_beside left before) none
-      ∙ sym (ap (λ left. reached_by (found_by before turn.question left)) none)
+      cc
 
   in_conclusion : (p : Problem) (ps : List Problem) (budget : ℕ) (turn : Option Turn) (rows : List ℕ)
       → AllByRecursion P ps
@@ -152,12 +150,12 @@ module _ (P : Problem → Type 0) where
       → rows_in (conclusion_by p ps budget turn).ending ≡ Some rows
       → IsLeft (conclusion_by p ps budget turn) rows
   in_conclusion p ps budget None rows all each e =
-      in_concluded p (last_found None ps) (nodes_of ps) rows (left_last None ps tt all) e
+      in_concluded p _ _ rows (left_last None ps tt all) e
   in_conclusion p ps budget (Some turn) rows all each e =
       let here = each turn refl in
-      let n : ℕ = budget - nodes_of turn.earlier in
-      in_cut_short turn.question (left_at budget turn) (reached_at budget turn) budget rows
-      (left_by (last_found None turn.earlier) turn.question (carried turn.question n) (λ rows is. inr (n, is))
+      let n = budget - nodes_of turn.earlier in
+      in_cut_short turn.question _ _ budget rows
+      (left_by _ turn.question (carried turn.question n) (λ rows is. inr (n, is))
       (left_last None turn.earlier tt here.0) here.1) (reached_left budget turn here.1) e
 
   in_turn : (questions : Questions) (budget : ℕ) → P questions.first → AllByRecursion P questions.others
@@ -173,7 +171,7 @@ module _ (P : Problem → Type 0) where
   unfolding conclusion_of
   left-of questions budget rows one others e =
       in_conclusion (last_of questions.first (asked questions)) (asked questions) budget
-      (find (passes budget) (turns [] (asked questions))) rows (each_asked P questions one others)
+      _ rows (each_asked P questions one others)
       (in_turn questions budget one others) e
 
 -- Where the asking ends with the first answer, no question but the last has one, so that nothing was found before the
@@ -194,20 +192,19 @@ after_answer : (test : Turn → Bool) (earlier qs : List Problem) (turn : Turn) 
 after_answer test earlier qs turn p None is none later on =
     later (earlier ++ p ∷ [])
     (found_more None earlier p ∙ ap (λ l. found_by l p (answer p)) none ∙ ap (found_by None p) is) on
-after_answer test earlier qs turn p (Some rows) is none later on = absurd (cc on)
+after_answer test earlier qs turn p (Some rows) is none later on = cc on
 
 none_in_turn : (test : Turn → Bool) (earlier qs : List Problem) (turn : Turn) → last_found None earlier ≡ None
     → find test (turns earlier (up_to (is_last Answered) qs)) ≡ Some turn → last_found None turn.earlier ≡ None
-none_in_turn test earlier [] turn none e = absurd (cc e)
+none_in_turn test earlier [] turn none e = cc e
 none_in_turn test earlier (p ∷ qs) turn none e =
     let own : Turn = record { earlier = earlier; question = p } in
     elim (cases_Bool (test own)) [
       | inl here ↦
-          subst (λ (t : Turn). last_found None t.earlier ≡ None)
-          (same_some (sym (cond-true (test own) _ _ here) ∙ e)) none
+          rw (← (same_some (sym (cond-true _ _ _ here) ∙ e))) none
       | inr later ↦
           after_answer test earlier qs turn p (answer p) refl none (λ more. none_in_turn test more qs turn)
-          (sym (cond-false (test own) _ _ later) ∙ e)
+          (sym (cond-false _ _ _ later) ∙ e)
     ]
 
 not_cut : (p : Problem) (found : Option Found) (n : ℕ) (rows : Option (List ℕ)) (b : ℕ)
@@ -218,20 +215,19 @@ not_cut p (Some found) n rows b e = cc e
 by_none : (p : Problem) (left : Option Found) (reached budget : ℕ) (rows : Option (List ℕ)) (b : ℕ) → left ≡ None
     → HasEnding (cut_short p left reached budget) (BudgetEnded rows b) → rows ≡ None
 by_none p None reached budget rows b is e = cc e
-by_none p (Some found) reached budget rows b is e = absurd (cc is)
+by_none p (Some found) reached budget rows b is e = cc is
 
 module _ (P : Problem → Type 0) (plain : (p : Problem) → P p → p.least ≡ false) where
   nothing_by : (p : Problem) (ps : List Problem) (budget : ℕ) (turn : Option Turn) (rows : Option (List ℕ)) (b : ℕ)
       → HasEnding (conclusion_by p ps budget turn) (BudgetEnded rows b)
       → ((own : Turn) → turn ≡ Some own → InTurn P own × (last_found None own.earlier ≡ None)) → rows ≡ None
-  nothing_by p ps budget None rows b e each = absurd (not_cut p (last_found None ps) (nodes_of ps) rows b e)
+  nothing_by p ps budget None rows b e each = absurd (not_cut p _ _ rows b e)
   nothing_by p ps budget (Some turn) rows b e each =
       let here = each turn refl in
-      let n : ℕ = budget - nodes_of turn.earlier in
+      let n = budget - nodes_of turn.earlier in
       let none : left_at budget turn ≡ None =
-      ap (λ l. found_by l turn.question (carried turn.question n)) here.1
-      ∙ ap (found_by None turn.question) (none_carried turn.question (plain turn.question here.0.1) n) in
-      by_none turn.question (left_at budget turn) (reached_at budget turn) budget rows b none e
+      cc (none_carried turn.question (plain turn.question here.0.1) n) in
+      by_none turn.question _ _ budget rows b none e
 
   pub none-left : (questions : Questions) (budget : ℕ) (rows : Option (List ℕ)) (b : ℕ) → questions.until ≡ Answered
       → P questions.first
@@ -240,7 +236,7 @@ module _ (P : Problem → Type 0) (plain : (p : Problem) → P p → p.least ≡
   unfolding conclusion_of
   none-left questions budget rows b ends one others e =
       nothing_by (last_of questions.first (asked questions)) (asked questions) budget
-      (find (passes budget) (turns [] (asked questions))) rows b e
+      _ rows b e
       (λ turn is. (
         in_turn P questions budget one others turn is,
         none_in_turn (passes budget) [] (questions.first ∷ questions.others) turn refl

@@ -93,7 +93,7 @@ in_four_runs = record {
     pair 1 0 (omega arith) (omega arith),
     (pair 0 1 (omega arith) (omega arith), (pair 1 1 (omega arith) (omega arith), tt)),
   );
-  block_rows = All-from_recursion (IsVector 2 2) [] tt;
+  block_rows = All-from_recursion _ [] tt;
 }
 
 allowed_blocks : Allows (step_of (Runs 3) blocks.Most (Resolution 3)) (in_blocks 3 2)
@@ -101,7 +101,7 @@ allowed_blocks = record {
   levels = refl;
   factors = refl;
   runs = refl;
-  sizes = λ e. absurd (cc e);
+  sizes = λ e. cc e;
   blocks = refl;
   some_blocks = λ e. omega arith;
 }
@@ -113,7 +113,7 @@ allowed_runs = record {
   runs = refl;
   sizes = λ e. (omega arith, omega arith);
   blocks = refl;
-  some_blocks = λ e. absurd (cc e);
+  some_blocks = λ e. cc e;
 }
 
 -- two blocks are not the most where four are possible

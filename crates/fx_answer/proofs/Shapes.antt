@@ -1,5 +1,6 @@
 -- The books of a step have shapes within the limits.
-use Rattle.std.proofs.Common.{◌≡◌, ℕ, ◌≤◌, ◌+◌, ◌-◌, zero, suc, true, false, List, [], ◌∷◌, ◌++◌, map, Option, Some, None, All}
+use Rattle.std.proofs.Common.{◌≡◌, ℕ, ◌≤◌, ◌+◌, ◌-◌, zero, suc, true, false, List, [], ◌∷◌, map, Option, Some}
+use Rattle.std.proofs.Common.{None, All}
 use Rattle.std.proofs.Common.{refl, arith}
 use Rattle.std.specs.Prelude.{find, if◌then◌else◌}
 use Rattle.std.specs.List.{AllByRecursion, range_with_len}
@@ -7,7 +8,6 @@ use Rattle.std.proofs.lemmas.List.Elements.{All-from_recursion}
 use Rattle.fx_base.proofs.Lists.{each-append}
 use Rattle.fx_designs.specs.Problems.{Problem}
 use Rattle.fx_vectors.specs.Shape.{IsShape}
-use Rattle.fx_vectors.specs.declared.book.NamedBook.{NamedBook}
 use Rattle.fx_statements.specs.Steps.{Meaning}
 use Rattle.fx_statements.specs.Questions.{Turn, asked, highest, lowest, passes, question_for, questions_of, turns}
 use Rattle.fx_statements.proofs.Concluded.{each_asked, kept_turn}
@@ -33,7 +33,7 @@ books_shaped : (number : ℕ) (ps : List Problem) → AllByRecursion IsShaped ps
     → AllByRecursion HasShape (books_from number ps)
 books_shaped number [] h = tt
 books_shaped number (p ∷ ps) h =
-    each-append HasShape (book_at number p) (books_from (number + 1) ps) (one_shaped number p h.0)
+    each-append HasShape _ _ (one_shaped number p h.0)
     (books_shaped (number + 1) ps h.1)
 
 module _ (step : Meaning) (valid : IsValidStep step) where
@@ -47,20 +47,20 @@ module _ (step : Meaning) (valid : IsValidStep step) where
       → AllByRecursion IsShaped (map (question_for step) (range_with_len a n))
   others_shaped a zero from upto = tt
   others_shaped a (suc n) from upto = (
-    (shape_valid step valid a from (omega (arith, upto))).shaped,
-    others_shaped (a + 1) n (omega (arith, from)) (omega (arith, upto)),
+    (shape_valid step valid a from (omega arith)).shaped,
+    others_shaped (a + 1) n (omega arith) (omega arith),
   )
 
   asked_shaped : AllByRecursion IsShaped (asked (questions_of step))
   asked_shaped =
-      let some : low ≤ high = some_numbers step valid low refl in
-      each_asked IsShaped (questions_of step) (shape_valid step valid low (omega arith) some).shaped
-      (others_shaped (low + 1) (high - low) (omega arith) (omega (arith, some)))
+      let some = some_numbers step valid low refl in
+      each_asked IsShaped _ (shape_valid step valid low (omega arith) some).shaped
+      (others_shaped (low + 1) (high - low) (omega arith) (omega arith))
 
   finished_shaped : AllByRecursion IsShaped (finished (questions_of step) step.settings.budget)
   unfolding finished
   finished_shaped =
-      before (find (passes step.settings.budget) (turns [] (asked (questions_of step)))) refl
+      before _ refl
     where
       before : (o : Option Turn) → find (passes step.settings.budget) (turns [] (asked (questions_of step))) ≡ o
           → AllByRecursion IsShaped (finished_before (asked (questions_of step)) o)
@@ -70,5 +70,5 @@ module _ (step : Meaning) (valid : IsValidStep step) where
 
   pub shaped_books : All HasShape (books_of step)
   shaped_books =
-      All-from_recursion HasShape (books_of step)
-      (books_shaped 1 (finished (questions_of step) step.settings.budget) finished_shaped)
+      All-from_recursion HasShape _
+      (books_shaped 1 _ finished_shaped)

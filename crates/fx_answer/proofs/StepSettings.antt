@@ -1,7 +1,7 @@
 -- The settings of a step: orders of fields, what goes together, and dimensions.
-use Rattle.std.proofs.Common.{ℕ, ◌≡◌, ◌<◌, ◌≤◌, ◌&&◌, ◌||◌, Bool, true, false, refl, ap, ◌∙◌, subst, arith, inl, inr}
+use Rattle.std.proofs.Common.{ℕ, ◌≡◌, ◌≤◌, ◌&&◌, ◌||◌, Bool, true, false, refl, ap, ◌∙◌, arith, inl, inr}
 use Rattle.std.proofs.Common.{◌⊎◌}
-use Rattle.std.specs.Prelude.{nat_le, not}
+use Rattle.std.specs.Prelude.{not}
 use Rattle.std.proofs.lemmas.Bool.{leb-true, ltb-true, and_parts}
 use Rattle.fx_designs.specs.Problems.{Dimensions, Requirement, AtResolution, ForEffects}
 use Rattle.fx_reduction.specs.Reduction.{IsReducible}
@@ -29,9 +29,9 @@ most_or (blocks.PerBlock k) = inr refl
 most_or blocks.Most = inl refl
 
 pub not_both : (a b : Bool) → not (a && b) ≡ true → a ≡ true → b ≡ false
-not_both true true e h = absurd (cc e)
+not_both true true e h = cc e
 not_both true false e h = refl
-not_both false b e h = absurd (cc h)
+not_both false b e h = cc h
 
 -- with the highest resolution the most blocks are not asked
 pub not_most : (b : Blocks) (highest least : Bool)
@@ -40,16 +40,16 @@ pub not_most : (b : Blocks) (highest least : Bool)
 not_most blocks.Without highest least e h = refl
 not_most (blocks.Factors t) highest least e h = refl
 not_most (blocks.PerBlock k) highest least e h = refl
-not_most blocks.Most true true e h = absurd (cc e)
-not_most blocks.Most true false e h = absurd (cc e)
-not_most blocks.Most false least e h = absurd (cc h)
+not_most blocks.Most true true e h = cc e
+not_most blocks.Most true false e h = cc e
+not_most blocks.Most false least e h = cc h
 
 -- the block factors do not hang on the number of the question, but for the most blocks
 pub same_blocks : (b : Blocks) (m n k : ℕ) → has_most b ≡ false → block_factors b m n ≡ block_factors b m k
 same_blocks blocks.Without m n k e = refl
 same_blocks (blocks.Factors t) m n k e = refl
 same_blocks (blocks.PerBlock p) m n k e = refl
-same_blocks blocks.Most m n k e = absurd (cc e)
+same_blocks blocks.Most m n k e = cc e
 
 pub runs_again : (size : Size) (n : ℕ) → run_factors size n ≡ run_factors size (run_factors size n)
 runs_again (Runs m) n = refl
@@ -70,10 +70,10 @@ highest_or criterion.Effects = inr refl
 pub reducible_by : (kind : Criterion) (requirement : Requirement) → IsOfKind kind requirement
     → is_criterion kind ≡ true → IsReducible requirement
 reducible_by (criterion.Resolution r) (AtResolution n) h e =
-    let three = leb-true 3 r (and_parts (nat_le 3 r) (nat_le r 99) e).0 in
-    let same : n ≡ r = cc in omega (arith, three)
+    let three = leb-true 3 r (and_parts _ _ e).0 in
+    let same : n ≡ r = cc in omega arith
 reducible_by criterion.Highest (AtResolution n) h e = let same : n ≡ 3 = cc in omega arith
-reducible_by criterion.Effects (AtResolution n) h e = absurd (cc h)
+reducible_by criterion.Effects (AtResolution n) h e = cc h
 reducible_by kind (ForEffects estimate besides) h e = tt
 
 pub exponent_fits : (q : ℕ) (size : Size) (b : Blocks) → is_level q ≡ true → are_blocks q size b ≡ true
@@ -81,7 +81,7 @@ pub exponent_fits : (q : ℕ) (size : Size) (b : Blocks) → is_level q ≡ true
 exponent_fits q size blocks.Without level e = some_size q level
 exponent_fits q size (blocks.Factors t) level e = some_size q level
 exponent_fits q size (blocks.PerBlock k) level e =
-    (let low : k < greatest q = ltb-true k (greatest q) (and_parts _ _ e).1 in omega (arith, low))
+    (let low = ltb-true k (greatest q) (and_parts _ _ e).1 in omega arith)
 exponent_fits q size blocks.Most level e = some_size q level
 
 pub size_or : (size : Size) → (size ≡ Minimum) ⊎ ((m : ℕ) × (size ≡ Runs m))
@@ -90,9 +90,9 @@ size_or (Runs m) = inr (m, refl)
 
 pub unblocked : (b : Blocks) → has_blocks b ≡ false → b ≡ blocks.Without
 unblocked blocks.Without e = refl
-unblocked (blocks.Factors t) e = absurd (cc e)
-unblocked (blocks.PerBlock k) e = absurd (cc e)
-unblocked blocks.Most e = absurd (cc e)
+unblocked (blocks.Factors t) e = cc e
+unblocked (blocks.PerBlock k) e = cc e
+unblocked blocks.Most e = cc e
 
 abbrev pub sized : ℕ → ℕ → ℕ → ℕ → Dimensions
 sized q m s t = record { q = q; m = m; s = s; t = t }
@@ -100,4 +100,4 @@ sized q m s t = record { q = q; m = m; s = s; t = t }
 pub same_dimensions : (a b : Dimensions) → a.q ≡ b.q → a.m ≡ b.m → a.s ≡ b.s → a.t ≡ b.t → a ≡ b
 same_dimensions a b eq em es et =
     ap (λ q. sized q a.m a.s a.t) eq ∙ ap (λ m. sized b.q m a.s a.t) em ∙ ap (λ s. sized b.q b.m s a.t) es ∙ ap
-    (λ t. sized b.q b.m b.s t) et
+    (sized b.q b.m b.s) et

@@ -1,6 +1,6 @@
 -- Best words, as rows come.
-use Rattle.std.proofs.Common.{ℕ, ◌≡◌, ◌<◌, ◌≤◌, ◌+◌, ◌*◌, ◌^◌, ◌⊎◌, suc, Bool, true, false, cond, eqb, ◌&&◌, ◌||◌, List}
-use Rattle.std.proofs.Common.{[], ◌∷◌, ◌++◌, take, drop, set, length, slice_index, slice_index_or, Option, Some, None}
+use Rattle.std.proofs.Common.{ℕ, ◌≡◌, ◌<◌, ◌≤◌, ◌+◌, ◌*◌, ◌^◌, ◌⊎◌, suc, Bool, true, false, cond, eqb, ◌&&◌, List}
+use Rattle.std.proofs.Common.{[], ◌∷◌, ◌++◌, take, set, length, slice_index, slice_index_or, Option, Some, None}
 use Rattle.std.proofs.Common.{length-append, take-append-drop, drop-cons, refl, sym, subst, ◌∙◌, ap, arith, inl, inr}
 use Rattle.std.specs.Prelude.{nat_lt, nat_le}
 use Rattle.std.proofs.Math.Nat.{pow-succ', mul-le-mul_left}
@@ -10,9 +10,8 @@ use Rattle.std.proofs.lemmas.Bool.{cases_eq, cases_lt, eq-eqb, eqb-true, ltb-tru
 use Rattle.std.proofs.lemmas.Bool.{and_parts, and_from, or_left, or_right, or_cases}
 use Rattle.fx_base.proofs.Lists.{each-get_or}
 use Rattle.fx_designs.specs.Galois.{number, digits, IsField}
-use Rattle.fx_designs.specs.Vectors.{IsVector, weight, is_zero, plus, scale}
+use Rattle.fx_designs.specs.Vectors.{IsVector, weight, scale}
 use Rattle.fx_designs.specs.Problems.{Dimensions, Requirement}
-use Rattle.fx_designs.specs.Demands.{is_estimated}
 use Rattle.fx_laws.proofs.Codes.{digits-vector}
 use Rattle.fx_laws.proofs.Reorders.{plus-comm}
 use Rattle.fx_laws.proofs.Ranks.{plus-assoc}
@@ -22,7 +21,6 @@ use Rattle.fx_demands.proofs.EffectVectors.{number-push, push-vector}
 use Rattle.fx_demands.proofs.Supports.{take-vector}
 use Rattle.fx_points.specs.Sums.{sum_of}
 use Rattle.fx_points.proofs.Additions.{sum-digits}
-use Rattle.fx_barred.specs.Reach.{with_row}
 use Rattle.fx_barred.specs.FirstWords.{sum_to}
 use Rattle.fx_barred.specs.declared.best_words.Best.{Best}
 use Rattle.fx_barred.specs.BestWords.{BringsToZero, IsNoWorseWord, IsBestWord, IsBestOf, IsBest, IsWithin, is_better}
@@ -32,9 +30,9 @@ use Rattle.fx_barred.proofs.EffectBars.{sum-front}
 
 no-worse-follows : (q : ℕ) (u v w : List ℕ) → IsNoWorseWord q u v → IsNoWorseWord q v w → IsNoWorseWord q u w
 no-worse-follows q u v w (inl a) (inl b) = inl (omega arith)
-no-worse-follows q u v w (inl a) (inr b) = inl (omega (arith, b.0))
-no-worse-follows q u v w (inr a) (inl b) = inl (omega (arith, a.0))
-no-worse-follows q u v w (inr a) (inr b) = inr (a.0 ∙ b.0, omega (arith, a.1, b.1))
+no-worse-follows q u v w (inl a) (inr b) = inl (omega arith)
+no-worse-follows q u v w (inr a) (inl b) = inl (omega arith)
+no-worse-follows q u v w (inr a) (inr b) = inr (a.0 ∙ b.0, omega arith)
 
 -- the same property
 pub best-same : (P R : List ℕ → Type 0) (q : ℕ) (o : Option Best) → ((v : List ℕ) → P v → R v)
@@ -58,7 +56,7 @@ better-is q a b u v wu nu wv nv is =
       | inr same ↦
           let parts = and_parts (eqb b.weight a.weight) (nat_le a.number b.number) same in
           let w = eqb-true b.weight a.weight parts.0 in
-          let n : a.number ≤ b.number = leb-true a.number b.number parts.1 in
+          let n = leb-true a.number b.number parts.1 in
           inr (omega arith, omega arith)
     ]
 
@@ -142,7 +140,7 @@ module _ (d : Dimensions) (f : IsField d.q) (wanted : Requirement) (rows : List 
   longer = rows ++ r ∷ []
 
   some : 0 < q
-  some = omega (arith, f.more_than_one)
+  some = omega arith
 
   abbrev vec : ℕ → List ℕ
   vec y = digits q m y
@@ -156,32 +154,37 @@ module _ (d : Dimensions) (f : IsField d.q) (wanted : Requirement) (rows : List 
   -- the row can be added to the sum or to the point
   turn : (a c : ℕ) → sum_of q 1 m (sum_of q c m a r) x ≡ sum_of q 1 m a (sum_of q c m x r)
   turn a c =
-      let row : List ℕ = scale q c (vec r) in
-      let one : (y : ℕ) → scale q 1 (vec y) ≡ vec y = λ y. scale-one q m f (vec y) (vec-vector y) in
-      ap (number q)
-      (ap (λ (v : List ℕ). plus q v (scale q 1 (vec x))) (sum-digits q m f c a r) ∙ ap (plus q (plus q (vec a) row))
-      (one x) ∙ plus-assoc q f (vec a) row (vec x) ∙ ap (plus q (vec a)) (plus-comm q f row (vec x))
-      ∙ ap (plus q (vec a)) (sym (sum-digits q m f c x r) ∙ sym (one (sum_of q c m x r))))
+      let row = scale q c (vec r) in
+      let one : (y : ℕ) → scale q 1 (vec y) ≡ vec y = λ y. scale-one q m f _ (vec-vector y) in
+      cc (
+        sum-digits q m f c a r,
+        one x,
+        plus-assoc q f (vec a) row (vec x),
+        plus-comm q f row (vec x),
+        sum-digits q m f
+            c x r,
+        one (sum_of q c m x r),
+      )
 
   sum-last : (u : List ℕ) (c : ℕ) → length u ≡ n
       → sum_to q m longer (u ++ c ∷ []) (length longer) ≡ sum_of q c m (sum_to q m rows u n) r
   sum-last u c len =
       let up : length longer ≡ suc n = omega (arith, long) in
       let code : slice_index (u ++ c ∷ []) n ≡ c =
-      ap (slice_index (u ++ c ∷ [])) (sym len) ∙ get_or_push u c 0 (length u) refl in
-      ap (sum_to q m longer (u ++ c ∷ [])) up
-      ∙ ap (λ (k : ℕ). with_row q m longer n (sum_to q m longer (u ++ c ∷ []) n) k) code
-      ∙ ap (λ (k : ℕ). sum_of q c m (sum_to q m longer (u ++ c ∷ []) n) k) (get_or_push rows r 0 (length rows) refl)
-      ∙ ap (λ (k : ℕ). sum_of q c m k r)
-      (sum-before q m rows r (u ++ c ∷ []) n (omega arith) ∙ sum-front q m rows u (c ∷ []) n (omega (arith, len)))
+      cc (get_or_push u c 0 (length u) refl) in
+      cc (
+        get_or_push rows r 0 (length rows) refl,
+        sum-before q m rows r (u ++ c ∷ []) n (omega arith),
+        sum-front q m
+            rows u (c ∷ []) n (omega arith),
+      )
 
   extend : (c : ℕ) (u : List ℕ) → c < q → BringsToZero d wanted rows (sum_of q c m x r) u
       → BringsToZero d wanted longer x (u ++ c ∷ [])
   extend c u low h = record {
-    vector = subst (λ (k : ℕ). IsVector q k (u ++ c ∷ [])) (sym long) (push-vector q n u c h.vector low);
-    factors = ap (λ (l : List ℕ). is_zero l || is_estimated wanted l)
-        (take-append-le d.s u (c ∷ []) (omega (arith, blocks, h.vector.len))) ∙ h.factors;
-    sum = ap (λ (k : ℕ). sum_of q 1 m k x) (sum-last u c h.vector.len) ∙ turn (sum_to q m rows u n) c ∙ h.sum;
+    vector = rw long (push-vector q n u c h.vector low);
+    factors = cc (take-append-le d.s u (c ∷ []) (omega arith));
+    sum = cc (sum-last u c h.vector.len, turn (sum_to q m rows u n) c);
   }
 
   record Parts (v : List ℕ) (c : ℕ) : Type 0 where
@@ -191,25 +194,20 @@ module _ (d : Dimensions) (f : IsField d.q) (wanted : Requirement) (rows : List 
 
   parted : (v : List ℕ) → BringsToZero d wanted longer x v → Parts v (slice_index v n)
   parted v h =
-      let c : ℕ = slice_index v n in
-      let u : List ℕ = take n v in
-      let len : length v ≡ suc n = omega (arith, h.vector.len, long) in
-      let rest : drop (suc n) v ≡ [] = drop_all (suc n) v (omega (arith, len)) in
+      let c = slice_index v n in
+      let u = take n v in
+      let len : length v ≡ suc n = omega (arith, long) in
+      let rest = drop_all (suc n) v (omega arith) in
       let whole : v ≡ u ++ c ∷ [] =
-      sym (take-append-drop n v) ∙ ap (λ (l : List ℕ). u ++ l)
-      (drop-cons v n 0 (omega (arith, len)) ∙ ap (λ (l : List ℕ). c ∷ l) rest) in
-      let vector : IsVector q n u = take-vector q (length longer) n 1 v h.vector long in
+      cc (take-append-drop n v, drop-cons v n 0 (omega arith)) in
+      let vector = take-vector q _ n 1 v h.vector long in
       record {
         front = u;
         whole = whole;
         brings = record {
           vector = vector;
-          factors = ap (λ (l : List ℕ). is_zero l || is_estimated wanted l)
-              (sym (take-append-le d.s u (c ∷ []) (omega (arith, blocks, vector.len))) ∙ ap (take d.s) (sym whole)) ∙
-              h.factors;
-          sum = sym (turn (sum_to q m rows u n) c) ∙ ap (λ (k : ℕ). sum_of q 1 m k x)
-              (sym (sum-last u c vector.len) ∙ ap (λ (w : List ℕ). sum_to q m longer w (length longer)) (sym whole)) ∙
-              h.sum;
+          factors = cc (take-append-le d.s u (c ∷ []) (omega arith));
+          sum = cc (turn (sum_to q m rows u n) c, sum-last u c vector.len);
         };
       }
 
@@ -224,13 +222,13 @@ module _ (d : Dimensions) (f : IsField d.q) (wanted : Requirement) (rows : List 
   module _ (c : ℕ) (code : c < q) (a : ℕ) (heavier : (u : List ℕ) → weight (u ++ c ∷ []) ≡ weight u + a)
       (b other : Best) (weighs : other.weight ≡ b.weight + a) (counts : other.number ≡ b.number + c * q ^ n) where
     more : (u : List ℕ) → length u ≡ n → number q (u ++ c ∷ []) ≡ number q u + c * q ^ n
-    more u e = number-push q u c ∙ ap (λ (k : ℕ). number q u + c * q ^ k) e
+    more u e = cc (number-push q u c)
 
     raised : (u v : List ℕ) → length u ≡ n → length v ≡ n → IsNoWorseWord q u v
         → IsNoWorseWord q (u ++ c ∷ []) (v ++ c ∷ [])
     raised u v ul vl (inl less) = inl (omega (arith, heavier u, heavier v))
     raised u v ul vl (inr same) =
-        inr (omega (arith, same.0, heavier u, heavier v), omega (arith, same.1, more u ul, more v vl))
+        inr (omega (arith, heavier u, heavier v), omega (arith, more u ul, more v vl))
 
     best-at : IsBestWord (BringsToZero d wanted rows (sum_of q c m x r)) q b → IsBestWord (At c) q other
     best-at h =
@@ -239,24 +237,23 @@ module _ (d : Dimensions) (f : IsField d.q) (wanted : Requirement) (rows : List 
           word = h.word ++ c ∷ [];
           holds = (
             extend c h.word code h.holds,
-            ap (slice_index (h.word ++ c ∷ [])) (sym len) ∙ get_or_push h.word c 0
-                (length h.word) refl,
+            cc (get_or_push h.word c 0
+                (length h.word) refl),
           );
-          weighs = omega (arith, heavier h.word, h.weighs, weighs);
-          counts = omega (arith, more h.word len, h.counts, counts);
+          weighs = omega (arith, heavier h.word);
+          counts = omega (arith, more h.word len);
           none_better = λ v hv.
               (let parts = parted v hv.0 in
-              let u : List ℕ = parts.front in
-              let brings : BringsToZero d wanted rows (sum_of q c m x r) u =
-              subst (λ (k : ℕ). BringsToZero d wanted rows (sum_of q k m x r) u) hv.1 parts.brings in
-              let whole : v ≡ u ++ c ∷ [] = parts.whole ∙ ap (λ (k : ℕ). u ++ k ∷ []) hv.1 in
-              subst (λ (w : List ℕ). IsNoWorseWord q (h.word ++ c ∷ []) w) (sym whole)
-              (raised h.word u len brings.vector.len (h.none_better u brings)));
+              let u = parts.front in
+              let brings =
+              rw hv.1 at parts.brings in
+              let whole : v ≡ u ++ c ∷ [] = cc in
+              rw whole (raised h.word u len brings.vector.len (h.none_better u brings)));
         }
 
   none-at : (c : ℕ) → ((u : List ℕ) → BringsToZero d wanted rows (sum_of q c m x r) u → ⊥) → (v : List ℕ) → At c v → ⊥
   none-at c h v hv = let parts = parted v hv.0 in
-      h parts.front (subst (λ (k : ℕ). BringsToZero d wanted rows (sum_of q k m x r) parts.front) hv.1 parts.brings)
+      h parts.front (rw hv.1 at parts.brings)
 
   at-code : (c : ℕ) (o : Option Best) → 0 < c → c < q → IsBest d wanted rows (sum_of q c m x r) o
       → IsBestOf (At c) q (with_code o (c * q ^ n))
@@ -274,34 +271,34 @@ module _ (d : Dimensions) (f : IsField d.q) (wanted : Requirement) (rows : List 
   pub best-first : (o : Option Best) → x < q ^ m → IsBest d wanted rows x o → IsBestOf (Below 1) q o
   best-first o low h =
       let none : sum_of q 0 m x r ≡ x =
-      ap (λ (k : ℕ). sum_of q 0 m x k) (sym (get_or_push rows r 0 (length rows) refl)) ∙ with-none q m f longer n x low
+      cc (get_or_push rows r 0 (length rows) refl, with-none q m f longer n x low)
       in
-      best-same (At 0) (Below 1) q o (λ v hv. (hv.0, omega (arith, hv.1))) (λ v hv. (hv.0, omega (arith, hv.1)))
-      (at-zero o (subst (λ (k : ℕ). IsBest d wanted rows k o) (sym none) h))
+      best-same (At 0) (Below 1) q o (λ v hv. (hv.0, omega arith)) (λ v hv. (hv.0, omega arith))
+      (at-zero o (rw (← none) at h))
 
   pub best-next : (c : ℕ) (found o : Option Best) → 0 < c → c < q → IsBestOf (Below c) q found
       → IsBest d wanted rows (sum_of q c m x r) o
       → IsBestOf (Below (c + 1)) q (preferred found (with_code o (c * q ^ n)))
   best-next c found o positive low so-far h =
-      preferred-best (Below c) (At c) (Below (c + 1)) q (λ v hv. (hv.0, omega (arith, hv.1)))
-      (λ v hv. (hv.0, omega (arith, hv.1)))
+      preferred-best (Below c) (At c) (Below (c + 1)) q (λ v hv. (hv.0, omega arith))
+      (λ v hv. (hv.0, omega arith))
       (λ v hv. elim (cases_eq (slice_index v n) c)
-      [ inl here ↦ inr (hv.0, here) | inr other ↦ inl (hv.0, omega (arith, hv.1)) ])
+      [ inl here ↦ inr (hv.0, here) | inr other ↦ inl (hv.0, omega arith) ])
       found (with_code o (c * q ^ n)) so-far (at-code c o positive low h)
 
   pub best-last : (found : Option Best) → IsBestOf (Below q) q found → IsBest d wanted longer x found
   best-last found h =
       best-same (Below q) (BringsToZero d wanted longer x) q found (λ v hv. hv.0)
-      (λ v hv. (hv, each-get_or (λ (a : ℕ). a < q) v n 0 hv.vector.codes (omega (arith, hv.vector.len, long)))) h
+      (λ v hv. (hv, each-get_or _ v n 0 hv.vector.codes (omega (arith, long)))) h
 
 -- bounds
 pub within-more : (q n : ℕ) (o : Option Best) → 0 < q → IsWithin q n o → IsWithin q (n + 1) o
 within-more q n None some h = tt
 within-more q n (Some b) some h =
     let up : n + 1 ≡ suc n = omega arith in
-    let wide : q ^ (n + 1) ≡ q * q ^ n = ap (λ (k : ℕ). q ^ k) up ∙ pow-succ' q n in
-    let more : q ^ n * 1 ≤ q ^ n * q = mul-le-mul_left (q ^ n) some in
-    (omega (arith, h.0), omega (arith, h.1))
+    let wide = ap (λ k. q ^ k) up ∙ pow-succ' q n in
+    let more = mul-le-mul_left (q ^ n) some in
+    (omega arith, omega arith)
 
 pub preferred-within : (q n : ℕ) (a b : Option Best) → IsWithin q n a → IsWithin q n b → IsWithin q n (preferred a b)
 preferred-within q n None b ha hb = hb
@@ -321,9 +318,9 @@ made-next P tables first x place v at there here before y low =
     elim (cases_eq y x) [
       | inl last ↦
           subst (P y) (sym (get_or-set_at tables place (first + y) v None (omega arith) there))
-          (subst (λ (k : ℕ). P k v) (sym last) here)
+          (rw (← last) at here)
       | inr less ↦
           subst (P y)
-          (sym (get_or-set_other tables place (first + y) v None (λ (e : first + y ≡ place). less (omega arith))))
+          (sym (get_or-set_other tables place (first + y) v None (λ e. less (omega arith))))
           (before y (omega arith))
     ]

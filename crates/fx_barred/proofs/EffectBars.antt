@@ -1,18 +1,17 @@
 -- Under effects, over the factor rows: which rows are barred, and the closing word of a barred row.
-use Rattle.std.proofs.Common.{ℕ, ◌≡◌, ◌<◌, ◌≤◌, ◌+◌, ◌-◌, ◌*◌, ◌^◌, ◌⊎◌, zero, suc, Bool, true, false, cond, eqb, ◌||◌}
+use Rattle.std.proofs.Common.{ℕ, ◌≡◌, ◌<◌, ◌≤◌, ◌+◌, ◌-◌, ◌*◌, ◌^◌, ◌⊎◌, zero, suc, true, false, cond, eqb}
 use Rattle.std.proofs.Common.{List, [], ◌∷◌, ◌++◌, map, take, drop, length, get_or, slice_index, slice_index_or, Some}
-use Rattle.std.proofs.Common.{length-append, length-take, take-append-drop, drop-cons, refl, sym, subst, ◌∙◌, ap, arith}
+use Rattle.std.proofs.Common.{length-append, length-take, take-append-drop, drop-cons, refl, sym, ◌∙◌, ap, arith}
 use Rattle.std.proofs.Common.{inl, inr}
-use Rattle.std.specs.Prelude.{unwrap_or, Option}
+use Rattle.std.specs.Prelude.{unwrap_or}
 use Rattle.std.specs.List.{AllByRecursion}
 use Rattle.std.proofs.lemmas.Bool.{cases_eq, cases_lt, eq-eqb, ne_eqb, eqb-true}
 use Rattle.std.proofs.lemmas.List.{take_more, take_all, length-map, map-append, take_at, drop_at, get_or_default}
 use Rattle.std.proofs.lemmas.List.{get_or_append_left}
 use Rattle.fx_designs.specs.Galois.{number, digits, neg, IsField}
-use Rattle.fx_designs.specs.Vectors.{IsVector, weight, zeros, is_zero, plus, scale, combination, vectors_of, is_normal}
-use Rattle.fx_designs.specs.Vectors.{last_nonzero}
+use Rattle.fx_designs.specs.Vectors.{IsVector, weight, zeros, plus, scale, combination, vectors_of, is_normal}
 use Rattle.fx_designs.specs.Problems.{Dimensions, Requirement}
-use Rattle.fx_designs.specs.Demands.{is_forbidden_word, is_allowed, must_balance, is_estimated}
+use Rattle.fx_designs.specs.Demands.{is_forbidden_word, is_allowed, must_balance}
 use Rattle.fx_designs.specs.Closing.{closing_word}
 use Rattle.fx_laws.proofs.Codes.{number-zeros, digits-vector, number-digits, number-below}
 use Rattle.fx_laws.proofs.Forms.{scale-one}
@@ -23,7 +22,7 @@ use Rattle.fx_vectors.proofs.Steps.{are_vectors, drop-vector}
 use Rattle.fx_vectors.proofs.Supports.{bit}
 use Rattle.fx_vectors.specs.Question.{CanBeAsked}
 use Rattle.fx_demands.specs.declared.forbidden_list.ForbiddenVector.{ForbiddenVector}
-use Rattle.fx_demands.specs.EffectVectors.{last_factor, sorting_class, IsForbiddenVector, AreAllForbidden}
+use Rattle.fx_demands.specs.EffectVectors.{last_factor, IsForbiddenVector, AreAllForbidden}
 use Rattle.fx_demands.specs.Completions.{IsClosing}
 use Rattle.fx_demands.proofs.Completing.{weight-append}
 use Rattle.fx_demands.proofs.Closings.{last-top, later-zeros}
@@ -36,13 +35,12 @@ use Rattle.fx_points.proofs.Halves.{power-some}
 use Rattle.fx_barred.specs.FirstWords.{sum_to, vector_at, HasSum, HasNone, IsFirst}
 use Rattle.fx_barred.proofs.Firsts.{vector-at}
 use Rattle.fx_barred.proofs.Longer.{not_before}
-use Rattle.fx_barred.specs.Reach.{with_row}
 
 code-zero : (a : ℕ) → bit a ≡ 0 → a ≡ 0
 code-zero a e =
     elim (cases_eq a 0) [
       | inl none ↦ none
-      | inr some ↦ let one : bit a ≡ 1 = rw (ne_eqb a 0 some) refl in absurd (omega (arith, one, e))
+      | inr some ↦ let one : bit a ≡ 1 = rw (ne_eqb a 0 some) refl in absurd (omega arith)
     ]
 
 -- what a last factor says of the codes
@@ -53,28 +51,23 @@ last-is (a ∷ v) i e =
     elim (cases_eq (last_factor v) 0) [
       | inl none ↦
           let here : cond (eqb a 0) 0 1 ≡ i + 1 =
-          sym (ap (λ (b : Bool). cond b (cond (eqb a 0) 0 1) (suc (last_factor v))) (eq-eqb (last_factor v) 0 none))
-          ∙ e in
+          cc (eq-eqb _ 0 none) in
           elim (cases_eq a 0) [
-            | inl zero_code ↦ let bad : 0 ≡ i + 1 = sym (ap (λ (b : Bool). cond b 0 1) (eq-eqb a 0 zero_code)) ∙ here in
+            | inl zero_code ↦ let bad : 0 ≡ i + 1 = cc (eq-eqb a 0 zero_code) in
                 absurd (omega arith)
             | inr some ↦
-                let one : 1 ≡ i + 1 = sym (ap (λ (b : Bool). cond b 0 1) (ne_eqb a 0 some)) ∙ here in
+                let one : 1 ≡ i + 1 = cc (ne_eqb a 0 some) in
                 let at : i ≡ 0 = omega arith in
-                subst (λ (i : ℕ). (weight (drop (i + 1) (a ∷ v)) ≡ 0) × (get_or (a ∷ v) i 0 ≡ 0 → ⊥)
-                × (i < length (a ∷ v))) (sym at) (last-none v none, some, omega arith)
+                rw at (last-none v none, some, omega arith)
           ]
       | inr some ↦
           let here : suc (last_factor v) ≡ i + 1 =
-          sym (ap (λ (b : Bool). cond b (cond (eqb a 0) 0 1) (suc (last_factor v))) (ne_eqb (last_factor v) 0 some))
-          ∙ e in
-          let j : ℕ = i - 1 in
+          cc (ne_eqb (last_factor v) 0 some) in
+          let j = i - 1 in
           let up : i ≡ suc j = omega arith in
           let rest = last-is v j (omega arith) in
           let plus_one : suc j + 1 ≡ suc (j + 1) = omega arith in
-          subst (λ (i : ℕ). (weight (drop (i + 1) (a ∷ v)) ≡ 0) × (get_or (a ∷ v) i 0 ≡ 0 → ⊥) × (i < length (a ∷ v)))
-          (sym up)
-          (ap (λ (p : ℕ). weight (drop p (a ∷ v))) plus_one ∙ rest.0, rest.1, omega (arith, rest.2))
+          rw up (ap (λ p. weight (drop p (a ∷ v))) plus_one ∙ rest.0, rest.1, omega arith)
     ]
   where
     last-none : (v : List ℕ) → last_factor v ≡ 0 → weight v ≡ 0
@@ -83,77 +76,78 @@ last-is (a ∷ v) i e =
         elim (cases_eq (last_factor v) 0) [
           | inl none ↦
               let here : bit a ≡ 0 =
-              sym (ap (λ (b : Bool). cond b (cond (eqb a 0) 0 1) (suc (last_factor v)))
-              (eq-eqb (last_factor v) 0 none)) ∙ e in
-              ap (λ (a : ℕ). weight (a ∷ v)) (code-zero a here) ∙ last-none v none
+              cc (eq-eqb _ 0 none) in
+              cc (code-zero a here, last-none v none)
           | inr some ↦ let here : suc (last_factor v) ≡ 0 =
-              sym (ap (λ (b : Bool). cond b (cond (eqb a 0) 0 1) (suc (last_factor v))) (ne_eqb (last_factor v) 0 some))
-              ∙ e in absurd (omega (arith, here))
+              cc (ne_eqb (last_factor v) 0 some) in absurd (omega arith)
         ]
 
 module _ (q m : ℕ) (f : IsField q) where
   some-q : 0 < q
-  some-q = omega (arith, f.more_than_one)
+  some-q = omega arith
 
   -- a sum over the first rows, as a vector
   pub sum-is : (rows w : List ℕ) (i : ℕ) → i ≤ length rows → i ≤ length w
       → digits q m (sum_to q m rows w i) ≡ combination q m (take i w) (vectors_of q m (take i rows))
   sum-is rows w zero hr hw = digits-zero q m f
   sum-is rows w (suc j) hr hw =
-      let c : ℕ = get_or w j 0 in
-      let r : ℕ = get_or rows j 0 in
+      let c = get_or w j 0 in
+      let r = get_or rows j 0 in
       let up : j + 1 ≡ suc j = omega arith in
-      let front : List ℕ = take j w in
-      let vs : List (List ℕ) = vectors_of q m (take j rows) in
-      let codes : take (suc j) w ≡ front ++ c ∷ [] = ap (λ (n : ℕ). take n w) (sym up) ∙ take_more w j 0 hw in
+      let front = take j w in
+      let vs = vectors_of q m (take j rows) in
+      let codes = ap (λ n. take n w) (sym up) ∙ take_more w j 0 hw in
       let parts : vectors_of q m (take (suc j) rows) ≡ vs ++ digits q m r ∷ [] =
-      ap (λ (n : ℕ). vectors_of q m (take n rows)) (sym up) ∙ ap (vectors_of q m) (take_more rows j 0 hr) ∙ map-append
-      (λ (r : ℕ). digits q m r) (take j rows) (r ∷ []) in
-      let row : IsVector q m (scale q c (digits q m r)) =
-      scale-vector q m f c (digits q m r) (digits-vector q m r some-q) in
+      cc (
+        take_more rows j 0 hr,
+        map-append
+            (digits q m) (take j rows) (r ∷ []),
+      ) in
+      let row =
+      scale-vector q m f c _ (digits-vector q m r some-q) in
       let len : length front ≡ length vs =
-      omega (arith, length-take j w, length-map (take j rows) (λ (r : ℕ). digits q m r), length-take j rows) in
-      let last : combination q m (c ∷ []) (digits q m r ∷ []) ≡ scale q c (digits q m r) =
-      plus-zero q m f (scale q c (digits q m r)) row in
-      sum-digits q m f c (sum_to q m rows w j) r ∙ ap (λ (v : List ℕ). plus q v (scale q c (digits q m r)))
-      (sum-is rows w j (omega arith) (omega arith))
-      ∙ ap (plus q (combination q m front vs)) (sym last) ∙ sym
-      (combination-append q m f front (c ∷ []) vs (digits q m r ∷ []) len (digits-vector q m r some-q, tt))
-      ∙ ap (λ (u : List ℕ). combination q m u (vs ++ digits q m r ∷ [])) (sym codes) ∙ ap
-      (combination q m (take (suc j) w)) (sym parts)
+      omega (arith, length-take j w, length-map (take j rows) (digits q m), length-take j rows) in
+      let last =
+      plus-zero q m f _ row in
+      cc (
+        sum-digits q m f c (sum_to q m rows w j) r,
+        sum-is rows w j (omega arith) (omega arith),
+        combination-append q
+            m f front (c ∷ []) vs (digits q m r ∷ []) len (digits-vector q m r some-q, tt),
+      )
 
   pub sum-below : (rows w : List ℕ) (i : ℕ) → sum_to q m rows w i < q ^ m
   sum-below rows w zero = power-some q m some-q
   sum-below rows w (suc j) =
       number-below q m _
-      (plus-vector q m f (digits q m (sum_to q m rows w j))
-      (scale q (slice_index w j) (digits q m (slice_index rows j))) (digits-vector q m (sum_to q m rows w j) some-q)
-      (scale-vector q m f (slice_index w j) (digits q m (slice_index rows j))
+      (plus-vector q m f _
+      _ (digits-vector q m (sum_to q m rows w j) some-q)
+      (scale-vector q m f (slice_index w j) _
       (digits-vector q m (slice_index rows j) some-q)))
 
   zero-first : (y : ℕ) → y < q ^ m → sum_of q 1 m 0 y ≡ y
   zero-first y low =
       let v = digits-vector q m y some-q in
-      ap (λ (u : List ℕ). number q (plus q u (scale q 1 (digits q m y)))) (digits-zero q m f) ∙ ap
-      (λ (u : List ℕ). number q (plus q (zeros m) u)) (scale-one q m f (digits q m y) v) ∙ ap (number q)
-      (zeros-plus q m f (digits q m y) v) ∙ number-digits q m y some-q low
+      cc (digits-zero q m f, scale-one q m f _ v, zeros-plus q m f _ v, number-digits q m y some-q low)
 
   minus-below : (y : ℕ) → minus_of q m f y < q ^ m
   minus-below y =
       number-below q m _
-      (plus-vector q m f (digits q m 0) (scale q (neg q 1) (digits q m y)) (digits-vector q m 0 some-q)
-      (scale-vector q m f (neg q 1) (digits q m y) (digits-vector q m y some-q)))
+      (plus-vector q m f _ _ (digits-vector q m 0 some-q)
+      (scale-vector q m f (neg q 1) _ (digits-vector q m y some-q)))
 
   -- a sum is zero where one point is minus the other
   pub to-minus : (s x : ℕ) → s < q ^ m → x < q ^ m → sum_of q 1 m s x ≡ 0 → s ≡ minus_of q m f x
   to-minus s x s-low low e =
-      sym (there_and_back q m f s x s-low) ∙ ap (λ (t : ℕ). sum_of q 1 m t (minus_of q m f x)) e ∙ zero-first
-      (minus_of q m f x) (minus-below x)
+      cc (
+        there_and_back q m f s x s-low,
+        zero-first
+            _ (minus-below x),
+      )
 
   pub from-minus : (s x : ℕ) → x < q ^ m → s ≡ minus_of q m f x → sum_of q 1 m s x ≡ 0
   from-minus s x low e =
-      ap (λ (t : ℕ). sum_of q 1 m t x) e ∙ ap (λ (t : ℕ). sum_of q 1 m t x)
-      (sym (zero-first (minus_of q m f x) (minus-below x))) ∙ back_and_there q m f 0 x (power-some q m some-q)
+      cc (zero-first _ (minus-below x), back_and_there q m f 0 x (power-some q m some-q))
 
 -- a vector whose last factor comes after the rows, over these and one more
 module _ (d : Dimensions) (f : IsField d.q) (rows : List ℕ) (x : ℕ) (x-below : x < d.q ^ d.m) (w : List ℕ)
@@ -168,30 +162,26 @@ module _ (d : Dimensions) (f : IsField d.q) (rows : List ℕ) (x : ℕ) (x-below
   total : combination d.q d.m w (vectors_of d.q d.m (rows ++ x ∷ []))
       ≡ plus d.q (digits d.q d.m s) (scale d.q 1 (digits d.q d.m x))
   total =
-      let q : ℕ = d.q in
-      let m : ℕ = d.m in
-      let some : 0 < q = omega (arith, f.more_than_one) in
-      let front : List ℕ = take k w in
-      let vs : List (List ℕ) = vectors_of q m rows in
-      let v : List ℕ = digits q m x in
-      let hv : IsVector q m v = digits-vector q m x some in
-      let low : k < length w = omega (arith, vector.len) in
+      let q = d.q in
+      let m = d.m in
+      let some : 0 < q = omega arith in
+      let front = take k w in
+      let vs = vectors_of q m rows in
+      let v = digits q m x in
+      let hv = digits-vector q m x some in
+      let low : k < length w = omega arith in
       let up : suc k ≡ k + 1 = omega arith in
-      let rest : List ℕ = drop (suc k) w in
-      let tail : drop k w ≡ 1 ∷ rest = drop-cons w k 0 low ∙ ap (λ (c : ℕ). c ∷ rest) one in
-      let whole : w ≡ front ++ 1 ∷ rest = sym (take-append-drop k w) ∙ ap (λ (l : List ℕ). front ++ l) tail in
-      let len : length front ≡ length vs = omega (arith, length-take k w, length-map rows (λ (r : ℕ). digits q m r)) in
-      let none : combination q m rest [] ≡ zeros m = nothing q m rest in
+      let rest = drop (suc k) w in
+      let tail : drop k w ≡ 1 ∷ rest = cc (drop-cons w k 0 low) in
+      let whole : w ≡ front ++ 1 ∷ rest = cc (take-append-drop k w) in
+      let len : length front ≡ length vs = omega (arith, length-take k w, length-map rows (digits q m)) in
+      let none = nothing q m rest in
       let last : combination q m (1 ∷ rest) (v ∷ []) ≡ scale q 1 v =
-      ap (plus q (scale q 1 v)) none ∙ plus-zero q m f (scale q 1 v) (scale-vector q m f 1 v hv) in
-      let all : take k rows ≡ rows = take_all k rows (omega arith) in
+      cc (plus-zero q m f _ (scale-vector q m f 1 v hv)) in
+      let all = take_all k rows (omega arith) in
       let first : digits q m s ≡ combination q m front vs =
-      sum-is q m f rows w k (omega arith) (omega arith) ∙ ap
-      (λ (l : List ℕ). combination q m front (vectors_of q m l)) all in
-      ap (λ (u : List ℕ). combination q m u (vectors_of q m (rows ++ x ∷ []))) whole ∙ ap
-      (combination q m (front ++ 1 ∷ rest)) (map-append (λ (r : ℕ). digits q m r) rows (x ∷ []))
-      ∙ combination-append q m f front (1 ∷ rest) vs (v ∷ []) len (hv, tt) ∙ ap
-      (λ (u : List ℕ). plus q u (combination q m (1 ∷ rest) (v ∷ []))) (sym first) ∙ ap (plus q (digits q m s)) last
+      cc (sum-is q m f rows w k (omega arith) (omega arith)) in
+      cc (map-append (digits q m) rows (x ∷ []), combination-append q m f front (1 ∷ rest) vs (v ∷ []) len (hv, tt))
     where
       nothing : (q m : ℕ) (u : List ℕ) → combination q m u [] ≡ zeros m
       nothing q m [] = refl
@@ -204,7 +194,7 @@ module _ (d : Dimensions) (f : IsField d.q) (rows : List ℕ) (x : ℕ) (x-below
 
   pub zero-from : s ≡ minus_of d.q d.m f x → combination d.q d.m w (vectors_of d.q d.m (rows ++ x ∷ [])) ≡ zeros d.m
   zero-from e =
-      let some : 0 < d.q = omega (arith, f.more_than_one) in
+      let some : 0 < d.q = omega arith in
       number-same d.q d.m f _ _ (combination-vector d.q d.m f w _ (are_vectors d.q d.m (rows ++ x ∷ []) some))
       (zeros-vector d.q d.m f)
       (ap (number d.q) total ∙ from-minus d.q d.m f s x x-below e ∙ sym (number-zeros d.q d.m))
@@ -213,8 +203,7 @@ module _ (d : Dimensions) (f : IsField d.q) (rows : List ℕ) (x : ℕ) (x-below
 pub sum-front : (q m : ℕ) (rows v w : List ℕ) (i : ℕ) → i ≤ length v → sum_to q m rows (v ++ w) i ≡ sum_to q m rows v i
 sum-front q m rows v w zero low = refl
 sum-front q m rows v w (suc j) low =
-    ap (with_row q m rows j (sum_to q m rows (v ++ w) j)) (get_or_append_left v w 0 j (omega arith)) ∙ ap
-    (λ (s : ℕ). with_row q m rows j s (slice_index v j)) (sum-front q m rows v w j (omega arith))
+    cc (get_or_append_left v w 0 j (omega arith), sum-front q m rows v w j (omega arith))
 
 factor-padded : (v : List ℕ) (t : ℕ) → last_factor (v ++ zeros t) ≡ last_factor v
 factor-padded [] t = last-zero (zeros t) (weight-zeros t)
@@ -240,21 +229,20 @@ module _ (d : Dimensions) (f : IsField d.q) (wanted : Requirement) (words : List
   any = record { vector = []; class = 0; number = 0 }
 
   whole-part : length rows < d.s + d.t
-  whole-part = omega (arith, part)
+  whole-part = omega arith
 
   longer-length : length longer ≡ r + 1
   longer-length = length-append rows (x ∷ [])
 
   longer-fits : length longer ≤ n
-  longer-fits = omega (arith, longer-length, part)
+  longer-fits = omega (arith, longer-length)
 
   -- with zeros for the block factors a word is forbidden where its factor part has to be balanced
   forbidden-is : (w : List ℕ) (j : ℕ) → drop d.s w ≡ zeros j
       → is_forbidden_word d wanted w ≡ must_balance d wanted (take d.s w)
   forbidden-is w j block =
-      let none : is_zero (drop d.s w) ≡ true = eq-eqb (weight (drop d.s w)) 0 (ap weight block ∙ weight-zeros j) in
-      ap (λ (b : Bool). cond b (must_balance d wanted (take d.s w))
-      (is_zero (take d.s w) || is_estimated wanted (take d.s w))) none
+      let none = eq-eqb _ 0 (ap weight block ∙ weight-zeros j) in
+      cc
 
   given : (k : ℕ) → k < length words → IsForbiddenVector d wanted (slice_index_or words k any)
   given k low = all.each k any low
@@ -265,16 +253,15 @@ module _ (d : Dimensions) (f : IsField d.q) (wanted : Requirement) (words : List
 
   listed-vector : (k : ℕ) → k < length words → IsVector d.q d.s (vector_at words k)
   listed-vector k low =
-      subst (λ (v : List ℕ). IsVector d.q d.s v) (sym (vector-at words k any low)) (given k low).vector
+      rw (vector-at words k any low) (given k low).vector
 
   word-vector : (k : ℕ) → k < length words → IsVector d.q n (word k)
   word-vector k low =
-      append-vector d.q d.s d.t (vector_at words k) (zeros d.t) (listed-vector k low) (zeros-vector d.q d.t f)
+      append-vector d.q d.s d.t _ _ (listed-vector k low) (zeros-vector d.q d.t f)
 
   word-normal : (k : ℕ) → k < length words → is_normal (word k) ≡ true
   word-normal k low =
-      ap (λ (c : ℕ). eqb c 1) (last-padded d.t (vector_at words k)) ∙ ap is_normal (vector-at words k any low) ∙
-      (given k low).normal
+      cc (last-padded d.t (vector_at words k), vector-at words k any low, (given k low).normal)
 
   word-weight : (k : ℕ) → weight (word k) ≡ weight (vector_at words k)
   word-weight k = let parts = weight-append (vector_at words k) (zeros d.t) in let none = weight-zeros d.t in
@@ -284,15 +271,14 @@ module _ (d : Dimensions) (f : IsField d.q) (wanted : Requirement) (words : List
       → (drop (r + 1) (word k) ≡ zeros (n - (r + 1))) × (get_or (word k) r 0 ≡ 1)
   ends k h =
       let vector = word-vector k h.there in
-      let last = last-is (word k) r (factor-padded (vector_at words k) d.t ∙ h.last) in
-      let rest : drop (r + 1) (word k) ≡ zeros (n - (r + 1)) =
-      zeros_from_weight (drop (r + 1) (word k)) (n - (r + 1)) (drop-vector d.q n (word k) (r + 1) vector).len last.0 in
+      let last = last-is (word k) r (cc (factor-padded (vector_at words k) d.t)) in
+      let rest =
+      zeros_from_weight _ _ (drop-vector d.q n _ (r + 1) vector).len last.0 in
       let up : suc r ≡ r + 1 = omega arith in
       let tail : drop r (word k) ≡ get_or (word k) r 0 ∷ zeros (n - (r + 1)) =
-      drop-cons (word k) r 0 last.2 ∙ ap (λ (l : List ℕ). get_or (word k) r 0 ∷ l)
-      (ap (λ (j : ℕ). drop j (word k)) up ∙ rest) in
-      let normal = eqb-true (last_nonzero (word k)) 1 (word-normal k h.there) in
-      (rest, sym (last-top r (word k) (get_or (word k) r 0) (n - (r + 1)) tail last.1) ∙ normal)
+      cc (drop-cons (word k) r 0 last.2) in
+      let normal = eqb-true _ 1 (word-normal k h.there) in
+      (rest, cc (last-top r (word k) _ (n - (r + 1)) tail last.1))
 
   closes : (k : ℕ) → HasSum d.q d.m rows words r goal-sum k → IsClosing d wanted longer (word k)
   closes k h =
@@ -302,16 +288,19 @@ module _ (d : Dimensions) (f : IsField d.q) (wanted : Requirement) (words : List
       let len = (listed-vector k h.there).len in
       record {
         vector = vector;
-        on_rows = subst (λ (j : ℕ). drop j (word k) ≡ zeros (n - j)) (sym longer-length) e.0;
+        on_rows = rw longer-length e.0;
         normal = word-normal k h.there;
         hit = record {
           zero_sum =
               zero-from d f rows x x-below (word k) vector e.1 (ap weight e.0 ∙ weight-zeros (n - (r + 1))) whole-part
-              (sum-front d.q d.m rows (vector_at words k) (zeros d.t) r (omega (arith, len, part)) ∙ h.sum);
+              (sum-front d.q d.m rows (vector_at words k) (zeros d.t) r (omega arith) ∙ h.sum);
           forbidden =
-              forbidden-is (word k) d.t (drop_at (vector_at words k) (zeros d.t) d.s len) ∙ ap
-              (must_balance d wanted) (take_at (vector_at words k) (zeros d.t) d.s len ∙ at) ∙
-              (given k h.there).forbidden;
+              cc (
+                forbidden-is (word k) d.t (drop_at (vector_at words k) (zeros d.t) d.s len),
+                take_at
+                    (vector_at words k) (zeros d.t) d.s len,
+                (given k h.there).forbidden,
+              );
         };
       }
 
@@ -319,50 +308,49 @@ module _ (d : Dimensions) (f : IsField d.q) (wanted : Requirement) (words : List
   found : (other : List ℕ) → IsClosing d wanted longer other
       → (k : ℕ) × HasSum d.q d.m rows words r goal-sum k × (word k ≡ other)
   found other c =
-      let after : drop (r + 1) other ≡ zeros (n - (r + 1)) =
-      subst (λ (j : ℕ). drop j other ≡ zeros (n - j)) longer-length c.on_rows in
-      let low : r < length other = omega (arith, c.vector.len, part) in
+      let after =
+      rw longer-length at c.on_rows in
+      let low : r < length other = omega arith in
       let up : suc r ≡ r + 1 = omega arith in
       let tail : drop r other ≡ get_or other r 0 ∷ zeros (n - (r + 1)) =
-      drop-cons other r 0 low ∙ ap (λ (l : List ℕ). get_or other r 0 ∷ l) (ap (λ (j : ℕ). drop j other) up ∙ after)
+      cc (drop-cons other r 0 low)
       in
-      let more : zeros (n - r) ≡ 0 ∷ zeros (n - (r + 1)) = let e : n - r ≡ suc (n - (r + 1)) = omega (arith, part) in
-      ap zeros e in
+      let more : zeros (n - r) ≡ 0 ∷ zeros (n - (r + 1)) = let e : n - r ≡ suc (n - (r + 1)) = omega arith in
+      cc in
       let some : get_or other r 0 ≡ 0 → ⊥ =
       λ z. not_before d f wanted rows below whole-part allowed-so-far x x-below other c
-      (tail ∙ ap (λ (a : ℕ). a ∷ zeros (n - (r + 1))) z ∙ sym more) in
-      let light : weight (drop (r + 1) other) ≡ 0 = ap weight after ∙ weight-zeros (n - (r + 1)) in
+      (cc) in
+      let light = ap weight after ∙ weight-zeros (n - (r + 1)) in
       let last = last-at other r low some light in
-      let one : get_or other r 0 ≡ 1 =
-      sym (last-top r other (get_or other r 0) (n - (r + 1)) tail some) ∙ eqb-true (last_nonzero other) 1 c.normal
+      let one =
+      sym (last-top r other _ (n - (r + 1)) tail some) ∙ eqb-true _ 1 c.normal
       in
-      let block : drop d.s other ≡ zeros (n - d.s) = later-zeros n (r + 1) d.s other (omega (arith, part)) after in
+      let block = later-zeros n (r + 1) d.s other (omega arith) after in
       let rest : n - d.s ≡ d.t = omega arith in
-      let v : List ℕ = take d.s other in
+      let v = take d.s other in
       let whole : v ++ zeros d.t ≡ other =
-      ap (λ (j : ℕ). v ++ zeros j) (sym rest) ∙ ap (λ (l : List ℕ). v ++ l) (sym block) ∙ take-append-drop d.s other
+      cc (take-append-drop d.s other)
       in
-      let vector : IsVector d.q d.s v = take-vector d.q n d.s d.t other c.vector refl in
+      let vector = take-vector d.q n d.s d.t other c.vector refl in
       let normal : is_normal v ≡ true =
-      ap (λ (c : ℕ). eqb c 1) (sym (last-padded d.t v)) ∙ ap is_normal whole ∙ c.normal in
+      cc (last-padded d.t v) in
       let listed = all.all v vector normal (sym (forbidden-is other (n - d.s) block) ∙ c.hit.forbidden) in
-      let k : ℕ = listed.0 in
-      let len : length (map (λ (w : ForbiddenVector). w.vector) words) ≡ length words =
-      length-map words (λ (w : ForbiddenVector). w.vector) in
-      let there : k < length words = omega (arith, listed.1) in
-      let at : vector_at words k ≡ v =
-      get_or_default (map (λ (w : ForbiddenVector). w.vector) words) k [] v listed.1 ∙ listed.2 in
-      let is : word k ≡ other = ap (λ (v : List ℕ). v ++ zeros d.t) at ∙ whole in
-      let sum : sum_to d.q d.m rows other r ≡ goal-sum =
+      let k = listed.0 in
+      let len =
+      length-map words (λ w. w.vector) in
+      let there : k < length words = omega arith in
+      let at =
+      get_or_default (map (λ w. w.vector) words) k [] v listed.1 ∙ listed.2 in
+      let is : word k ≡ other = cc in
+      let sum =
       zero-to d f rows x x-below other c.vector one light whole-part c.hit.zero_sum in
       let front : sum_to d.q d.m rows v r ≡ goal-sum =
-      sym (sum-front d.q d.m rows v (zeros d.t) r (omega (arith, vector.len, part))) ∙ ap
-      (λ (w : List ℕ). sum_to d.q d.m rows w r) whole ∙ sum in (
+      cc (sum-front d.q d.m rows v (zeros d.t) r (omega arith)) in (
         k,
         record {
           there = there;
-          last = ap last_factor at ∙ sym (factor-padded v d.t) ∙ ap last_factor whole ∙ last;
-          sum = ap (λ (v : List ℕ). sum_to d.q d.m rows v r) at ∙ front;
+          last = cc (factor-padded v d.t);
+          sum = cc;
         },
         is,
       )
@@ -379,14 +367,11 @@ module _ (d : Dimensions) (f : IsField d.q) (wanted : Requirement) (words : List
     class-at : (j : ℕ) → HasSum d.q d.m rows words r goal-sum j
         → (slice_index_or words j any).class ≡ 64 * (r + 1) + weight (word j)
     class-at j h =
-        (given j h.there).class ∙ ap sorting_class (sym (vector-at words j any h.there)) ∙ ap
-        (λ (l : ℕ). 64 * l + weight (vector_at words j)) h.last ∙ ap (λ (w : ℕ). 64 * (r + 1) + w)
-        (sym (word-weight j))
+        cc ((given j h.there).class, vector-at words j any h.there, word-weight j)
 
     number-at : (j : ℕ) → j < length words → (slice_index_or words j any).number ≡ number d.q (word j)
     number-at j low =
-        (given j low).number ∙ ap (number d.q) (sym (vector-at words j any low)) ∙ sym
-        (number-padded d.q d.t (vector_at words j))
+        cc ((given j low).number, vector-at words j any low, number-padded d.q d.t (vector_at words j))
 
     -- no closing word is preferred to the first
     best : (other : List ℕ) → IsClosing d wanted longer other
@@ -394,8 +379,8 @@ module _ (d : Dimensions) (f : IsField d.q) (wanted : Requirement) (words : List
         ⊎ ((weight (word k) ≡ weight other) × (number d.q other ≤ number d.q (word k)))
     best other c =
         let w = found other c in
-        let j : ℕ = w.0 in
-        let e : weight (word j) ≡ weight other = ap weight w.2 in
+        let j = w.0 in
+        let e = ap weight w.2 in
         let here = class-at k first.here in
         let there = class-at j w.1 in
         elim (cases_lt j k) [
@@ -405,7 +390,7 @@ module _ (d : Dimensions) (f : IsField d.q) (wanted : Requirement) (words : List
             | inr same ↦
                 let mine = number-at k first.here.there in
                 let others = number-at j w.1.there in
-                let value : number d.q (word j) ≡ number d.q other = ap (number d.q) w.2 in
+                let value : number d.q (word j) ≡ number d.q other = cc in
                 let after = same.1 in
                 let equal = same.0 in
                 inr (omega arith, omega arith)
@@ -413,20 +398,19 @@ module _ (d : Dimensions) (f : IsField d.q) (wanted : Requirement) (words : List
         ]
 
     pub barred_row : is_allowed d wanted longer ≡ false
-    barred_row = not_allowed d f wanted longer longer-fits (word k) closing
+    barred_row = not_allowed d f wanted longer longer-fits _ closing
 
     barring_word : closing_word d wanted longer ≡ Some (word k)
     barring_word =
-        word_is d f wanted longer longer-fits (word k)
+        word_is d f wanted longer longer-fits _
         (record {
           closing = closing;
           weighs = refl;
           greatest = λ other c weighs. elim (best other c) [ inl less ↦ absurd (omega arith) | inr same ↦ same.1 ];
         })
-        (record { each = λ other c. elim (best other c) [ inl less ↦ omega arith | inr same ↦ omega (arith, same.0) ] })
+        (record { each = λ other c. elim (best other c) [ inl less ↦ omega arith | inr same ↦ omega arith ] })
 
     pub barring_number : (e : ForbiddenVector)
         → number d.q (unwrap_or (closing_word d wanted longer) []) ≡ (slice_index_or words k e).number
     barring_number e =
-        ap (λ (o : Option (List ℕ)). number d.q (unwrap_or o [])) barring_word ∙ sym (number-at k first.here.there) ∙ ap
-        (λ (w : ForbiddenVector). w.number) (get_or_default words k any e first.here.there)
+        cc (barring_word, number-at k first.here.there, get_or_default words k any e first.here.there)

@@ -1,12 +1,11 @@
 -- The tables of the first vectors, as rows come and go.
-use Rattle.std.proofs.Common.{ℕ, ◌≡◌, ◌≢◌, ◌<◌, ◌≤◌, ◌+◌, ◌-◌, ◌*◌, ◌^◌, zero, suc, Bool, cond, eqb, List, [], ◌∷◌}
+use Rattle.std.proofs.Common.{ℕ, ◌≡◌, ◌≢◌, ◌<◌, ◌≤◌, ◌+◌, ◌-◌, ◌*◌, ◌^◌, zero, suc, cond, eqb, List, [], ◌∷◌}
 use Rattle.std.proofs.Common.{◌++◌, take, length, length-append, length-take, mul-le-mul_right, slice_index}
 use Rattle.std.proofs.Common.{slice_index_or, refl, sym, subst, ap, ◌∙◌, arith, inl, inr}
 use Rattle.std.proofs.lemmas.Bool.{cases_eq, cases_lt, eq-eqb, ne_eqb}
 use Rattle.std.proofs.lemmas.List.{get_or_append_left}
 use Rattle.fx_base.proofs.Numbers.{add_one-mul}
-use Rattle.fx_designs.specs.Galois.{number, digits, IsField}
-use Rattle.fx_designs.specs.Vectors.{plus, scale}
+use Rattle.fx_designs.specs.Galois.{IsField}
 use Rattle.fx_laws.proofs.Codes.{digits-vector, number-digits}
 use Rattle.fx_laws.proofs.Changes.{scale-none}
 use Rattle.fx_laws.proofs.Ranks.{plus-zero}
@@ -22,20 +21,19 @@ use Rattle.fx_vectors.specs.declared.shape.TheConstants.{MOST_FACTORS}
 -- no times a row
 pub with-none : (q m : ℕ) (f : IsField q) (rows : List ℕ) (j x : ℕ) → x < q ^ m → with_row q m rows j x 0 ≡ x
 with-none q m f rows j x low =
-    let some : 0 < q = omega (arith, f.more_than_one) in
-    ap (λ (v : List ℕ). number q (plus q (digits q m x) v))
-    (scale-none q m f (digits q m (slice_index rows j)) (digits-vector q m (slice_index rows j) some))
-    ∙ ap (number q) (plus-zero q m f (digits q m x) (digits-vector q m x some)) ∙ number-digits q m x some low
+    let some : 0 < q = omega arith in
+    cc (
+      scale-none q m f _ (digits-vector q m (slice_index rows j) some),
+      plus-zero q m f _ (digits-vector q m x some),
+      number-digits q m x some low,
+    )
 
 -- a later row changes nothing of a sum
 pub sum-before : (q m : ℕ) (rows : List ℕ) (x : ℕ) (v : List ℕ) (i : ℕ) → i ≤ length rows
     → sum_to q m (rows ++ x ∷ []) v i ≡ sum_to q m rows v i
 sum-before q m rows x v zero low = refl
 sum-before q m rows x v (suc j) low =
-    ap (λ (r : ℕ). number q
-    (plus q (digits q m (sum_to q m (rows ++ x ∷ []) v j)) (scale q (slice_index v j) (digits q m r))))
-    (get_or_append_left rows (x ∷ []) 0 j (omega arith))
-    ∙ ap (λ (s : ℕ). with_row q m rows j s (slice_index v j)) (sum-before q m rows x v j (omega arith))
+    cc (get_or_append_left rows (x ∷ []) 0 j (omega arith), sum-before q m rows x v j (omega arith))
 
 -- a vector of a list
 pub vector-at : (words : List ForbiddenVector) (k : ℕ) (d : ForbiddenVector) → k < length words
@@ -48,10 +46,10 @@ module _ (q m : ℕ) (rows : List ℕ) (words : List ForbiddenVector) (i : ℕ) 
   -- the same sums
   module _ (other : List ℕ) (same : (v : List ℕ) → sum_to q m other v i ≡ sum_to q m rows v i) where
     to-other : (y k : ℕ) → HasSum q m rows words i y k → HasSum q m other words i y k
-    to-other y k h = record { there = h.there; last = h.last; sum = same (vector_at words k) ∙ h.sum }
+    to-other y k h = record { there = h.there; last = h.last; sum = cc (same (vector_at words k)) }
 
     from-other : (y k : ℕ) → HasSum q m other words i y k → HasSum q m rows words i y k
-    from-other y k h = record { there = h.there; last = h.last; sum = sym (same (vector_at words k)) ∙ h.sum }
+    from-other y k h = record { there = h.there; last = h.last; sum = cc (same (vector_at words k)) }
 
     pub first-same : (bound first : ℕ) (tables : List ℕ) → AreFirst q m rows words i bound first tables
         → AreFirst q m other words i bound first tables
@@ -93,17 +91,17 @@ module _ (q m : ℕ) (rows : List ℕ) (words : List ForbiddenVector) (i : ℕ) 
       ≡ cond (eqb (slice_index tables (first + y0)) 0) (b + 1) (slice_index tables (first + y0))
       → AreFirst q m rows words i b first tables → AreFirst q m rows words i (b + 1) first other
   first-more b first y0 tables other has low0 others here h =
-      let old : ℕ = slice_index tables (first + y0) in
+      let old = slice_index tables (first + y0) in
       record {
         none = λ y low z.
             elim (cases_eq y y0) [
               | inl at ↦
                   let now : slice_index other (first + y0) ≡ 0 =
-                  ap (λ (k : ℕ). slice_index other (first + k)) (sym at) ∙ z in
+                  cc in
                   elim (cases_eq old 0) [
-                    | inl none ↦ let made = here ∙ ap (λ (t : Bool). cond t (b + 1) old) (eq-eqb old 0 none) in
+                    | inl none ↦ let made = here ∙ ap (λ t. cond t (b + 1) old) (eq-eqb old 0 none) in
                         absurd (omega arith)
-                    | inr some ↦ let made = here ∙ ap (λ (t : Bool). cond t (b + 1) old) (ne_eqb old 0 some) in
+                    | inr some ↦ let made = here ∙ ap (λ t. cond t (b + 1) old) (ne_eqb old 0 some) in
                         absurd (some (sym made ∙ now))
                   ]
               | inr apart ↦
@@ -112,7 +110,7 @@ module _ (q m : ℕ) (rows : List ℕ) (words : List ForbiddenVector) (i : ℕ) 
                   record {
                     none = λ k kb t. elim (cases_eq k b) [
                       | inl last ↦
-                          apart (sym t.sum ∙ ap (λ (k : ℕ). sum_to q m rows (vector_at words k) i) last ∙ has.sum)
+                          apart (sym t.sum ∙ ap (λ k. sum_to q m rows (vector_at words k) i) last ∙ has.sum)
                       | inr less ↦ before.none k (omega arith) t
                     ];
                   }
@@ -121,16 +119,15 @@ module _ (q m : ℕ) (rows : List ℕ) (words : List ForbiddenVector) (i : ℕ) 
             elim (cases_eq y y0) [
               | inl at ↦
                   let now : slice_index other (first + y0) ≡ suc k =
-                  ap (λ (k : ℕ). slice_index other (first + k)) (sym at) ∙ e in
-                  subst (λ (y : ℕ). IsFirst q m rows words i y k) (sym at)
-                  (elim (cases_eq old 0) [
+                  cc in
+                  rw at (elim (cases_eq old 0) [
                     | inl none ↦
-                        let made = here ∙ ap (λ (t : Bool). cond t (b + 1) old) (eq-eqb old 0 none) in
+                        let made = here ∙ ap (λ t. cond t (b + 1) old) (eq-eqb old 0 none) in
                         let same : b ≡ k = omega arith in
-                        subst (λ (k : ℕ). IsFirst q m rows words i y0 k) same
+                        subst (λ k. IsFirst q m rows words i y0 k) same
                         (record { here = has; none_before = (h.none y0 low0 none).none })
                     | inr some ↦
-                        let made = here ∙ ap (λ (t : Bool). cond t (b + 1) old) (ne_eqb old 0 some) in
+                        let made = here ∙ ap (λ t. cond t (b + 1) old) (ne_eqb old 0 some) in
                         h.some y0 k low0 (sym made ∙ now)
                   ])
               | inr apart ↦ let same = others (first + y) (λ e. apart (omega arith)) in h.some y k low (sym same ∙ e)
@@ -166,9 +163,9 @@ pub last-of-class : (q s : ℕ) (words : List ForbiddenVector) (k : ℕ) (d : Fo
 last-of-class q s words k d h small low =
     let is = h.each k d low in
     let at = vector-at words k d low in
-    let class : (slice_index_or words k d).class ≡ sorting_class (vector_at words k) =
+    let class =
     is.1 ∙ ap sorting_class (sym at) in
-    let len : length (vector_at words k) ≡ s = ap length at ∙ is.0.len in
+    let len = ap length at ∙ is.0.len in
     let few = weight-length (vector_at words k) in
     (omega arith, omega arith)
 
@@ -177,10 +174,10 @@ pub words_pop : (reached : ReachedView) (words : List ForbiddenVector) (tables :
     → AreFirstWords reached words tables
     → AreFirstWords (record reached { rows = take (length reached.rows - 1) reached.rows }) words tables
 words_pop reached words tables some h =
-    let n : ℕ = length reached.rows - 1 in
-    let front : List ℕ = take n reached.rows in
-    let last : ℕ = slice_index reached.rows n in
-    let whole : front ++ last ∷ [] ≡ reached.rows = all-but-last reached.rows some in
+    let n = length reached.rows - 1 in
+    let front = take n reached.rows in
+    let last = slice_index reached.rows n in
+    let whole = all-but-last reached.rows some in
     let len = length-take n reached.rows in
     record {
       words_are = h.words_are;
@@ -188,9 +185,8 @@ words_pop reached words tables some h =
       first = λ i few low.
           (let same : (v : List ℕ)
           → sum_to reached.q reached.m front v i ≡ sum_to reached.q reached.m reached.rows v i = λ v.
-          sym (sum-before reached.q reached.m front last v i few) ∙ ap
-          (λ (l : List ℕ). sum_to reached.q reached.m l v i) whole in
-          first-same reached.q reached.m reached.rows words i front same (length words) (i * reached.q ^ reached.m)
+          cc (sum-before reached.q reached.m front last v i few) in
+          first-same reached.q reached.m reached.rows words i front same _ _
           tables (h.first i (omega arith) low));
     }
 
@@ -204,28 +200,27 @@ pub words_push : (reached : ReachedView) (x : ℕ) (words : List ForbiddenVector
     ((length reached.rows + 1) * reached.q ^ reached.m) other)
     → AreFirstWords (record reached { rows = reached.rows ++ x ∷ [] }) words other
 words_push reached x words tables other h len kept new =
-    let n : ℕ = length reached.rows in
-    let size : ℕ = reached.q ^ reached.m in
+    let n = length reached.rows in
+    let size = reached.q ^ reached.m in
     let long = length-append reached.rows (x ∷ []) in
     record {
       words_are = h.words_are;
-      tables_len = len ∙ h.tables_len;
+      tables_len = cc;
       first = λ i few low.
           elim (cases_eq i (n + 1)) [
             | inl last ↦
-                subst (λ (i : ℕ). AreFirst reached.q reached.m (reached.rows ++ x ∷ []) words i (length words)
-                (i * size) other) (sym last) (new (omega arith))
+                rw last (new (omega arith))
             | inr before ↦
                 let less : i ≤ n = omega arith in
-                first-same reached.q reached.m reached.rows words i (reached.rows ++ x ∷ [])
-                (λ v. sum-before reached.q reached.m reached.rows x v i less) (length words) (i * size) other
-                (first-kept reached.q reached.m reached.rows words i (length words) (i * size) tables other
+                first-same reached.q reached.m reached.rows words i _
+                (λ v. sum-before reached.q reached.m reached.rows x v i less) _ _ other
+                (first-kept reached.q reached.m reached.rows words i _ _ tables other
                 (λ y y_low. kept (i * size + y) (below i y n size less y_low)) (h.first i less low))
           ];
     }
   where
     below : (i y n size : ℕ) → i ≤ n → y < size → i * size + y < (n + 1) * size
-    below i y n size le low = let wide = mul-le-mul_right size le in let next : (n + 1) * size ≡ n * size + size =
+    below i y n size le low = let wide = mul-le-mul_right size le in let next =
         add_one-mul n size in omega arith
 
 -- with no rows
@@ -234,12 +229,11 @@ pub words_start : (reached : ReachedView) (words : List ForbiddenVector) (tables
     → AreFirst reached.q reached.m reached.rows words (length reached.rows) (length words)
     (length reached.rows * reached.q ^ reached.m) tables → AreFirstWords reached words tables
 words_start reached words tables none are len first =
-    let zero_rows : length reached.rows ≡ 0 = ap length none in
+    let zero_rows = ap length none in
     record {
       words_are = are;
       tables_len = len;
       first = λ i few low.
           (let same : length reached.rows ≡ i = omega arith in
-          subst (λ (i : ℕ). AreFirst reached.q reached.m reached.rows words i (length words) (i * reached.q ^ reached.m)
-          tables) same first);
+          rw same at first);
     }

@@ -1,12 +1,13 @@
 -- Places that stand for all vectors, whatever the first rows are.
 use Rattle.std.proofs.Common.{ℕ, ◌≡◌, ◌<◌, ◌≤◌, ◌+◌, ◌-◌, ◌^◌, zero, suc, List, [], ◌∷◌, ◌++◌, length, length-append}
-use Rattle.std.proofs.Common.{replicate, slice_index, slice_index_or, slice_set, refl, sym, subst, ap, ◌∙◌, arith, inl, inr}
+use Rattle.std.proofs.Common.{replicate, slice_index, slice_index_or, slice_set, refl, sym, ap, ◌∙◌, arith, inl}
+use Rattle.std.proofs.Common.{inr}
 use Rattle.std.proofs.lemmas.Bool.{cases_eq, cases_lt}
 use Rattle.std.proofs.lemmas.List.{get_or_append_left, get_or-replicate, length-replicate, length-set, get_or-set_other}
 use Rattle.std.proofs.lemmas.Grind.{get_or-set_at}
 use Rattle.std.proofs.Math.Seq.{get_or-append_seam}
-use Rattle.fx_designs.specs.Galois.{number, digits, IsField}
-use Rattle.fx_designs.specs.Vectors.{plus, scale, zeros, IsVector}
+use Rattle.fx_designs.specs.Galois.{digits, IsField}
+use Rattle.fx_designs.specs.Vectors.{plus, scale, IsVector}
 use Rattle.fx_laws.proofs.Codes.{digits-vector, digits-number, number-zeros, number-below}
 use Rattle.fx_laws.proofs.Forms.{scale-one}
 use Rattle.fx_laws.proofs.Ranks.{plus-assoc}
@@ -16,14 +17,14 @@ use Rattle.fx_demands.specs.declared.forbidden_list.ForbiddenVector.{ForbiddenVe
 use Rattle.fx_points.specs.Sums.{sum_of}
 use Rattle.fx_points.proofs.Additions.{minus_of, back_and_there}
 use Rattle.fx_barred.specs.declared.kept.Kept.{Kept}
-use Rattle.fx_barred.specs.Reach.{with_row}
 use Rattle.fx_barred.specs.FirstWords.{sum_to, vector_at}
 use Rattle.fx_barred.specs.Places.{HasLast, StandFor, IsRange, place_at, place_count}
-use Rattle.fx_barred.specs.Keeping.{AreAlikeBefore, IsStoodBefore, StandBefore, IsListedBefore, IsStoodByOne, IsAddedBefore, IsKept, AreKept}
+use Rattle.fx_barred.specs.Keeping.{StandBefore, IsListedBefore, IsStoodByOne}
+use Rattle.fx_barred.specs.Keeping.{IsAddedBefore, IsKept, AreKept}
 
 module _ (q m : ℕ) (f : IsField q) where
   some : 0 < q
-  some = omega (arith, f.more_than_one)
+  some = omega arith
 
   abbrev vec : ℕ → List ℕ
   vec x = digits q m x
@@ -33,20 +34,23 @@ module _ (q m : ℕ) (f : IsField q) where
 
   sum-vector : (c x y : ℕ) → IsVector q m (plus q (vec x) (scale q c (vec y)))
   sum-vector c x y =
-      plus-vector q m f (vec x) (scale q c (vec y)) (vec-vector x) (scale-vector q m f c (vec y) (vec-vector y))
+      plus-vector q m f _ _ (vec-vector x) (scale-vector q m f c _ (vec-vector y))
 
   sum-digits : (c x y : ℕ) → vec (sum_of q c m x y) ≡ plus q (vec x) (scale q c (vec y))
-  sum-digits c x y = digits-number q m (plus q (vec x) (scale q c (vec y))) (sum-vector c x y)
+  sum-digits c x y = digits-number q m _ (sum-vector c x y)
 
   -- what is added first may be added last
   added_last : (c x z r : ℕ) → sum_of q c m (sum_of q 1 m x z) r ≡ sum_of q 1 m (sum_of q c m x r) z
   added_last c x z r =
-      let one : List ℕ = scale q 1 (vec z) in
-      let row : List ℕ = scale q c (vec r) in
-      ap (number q)
-      (ap (λ (v : List ℕ). plus q v row) (sum-digits 1 x z) ∙ plus-assoc q f (vec x) one row
-      ∙ ap (plus q (vec x)) (plus-comm q f one row) ∙ sym (plus-assoc q f (vec x) row one)
-      ∙ ap (λ (v : List ℕ). plus q v one) (sym (sum-digits c x r)))
+      let one = scale q 1 (vec z) in
+      let row = scale q c (vec r) in
+      cc (
+        sum-digits 1 x z,
+        plus-assoc q f (vec x) one row,
+        plus-comm q f one row,
+        plus-assoc q f (vec x) row one,
+        sum-digits c x r,
+      )
 
   -- the difference of two points
   difference : ℕ → ℕ → ℕ
@@ -55,16 +59,14 @@ module _ (q m : ℕ) (f : IsField q) where
   difference-is : (a b : ℕ) → b < q ^ m → sum_of q 1 m a (difference a b) ≡ b
   unfolding difference
   difference-is a b low =
-      let z : ℕ = sum_of q 1 m b (minus_of q m f a) in
-      let one = λ (x : ℕ). scale-one q m f (vec x) (vec-vector x) in
-      ap (number q)
-      (ap (plus q (vec a)) (one z) ∙ plus-comm q f (vec a) (vec z) ∙ ap (plus q (vec z)) (sym (one a)))
-      ∙ back_and_there q m f b a low
+      let z = sum_of q 1 m b (minus_of q m f a) in
+      let one = λ (x : ℕ). scale-one q m f _ (vec-vector x) in
+      cc (one z, plus-comm q f (vec a) (vec z), one a, back_and_there q m f b a low)
 
   -- a sum is a point
   sum-low : (rows v : List ℕ) (i : ℕ) → sum_to q m rows v i < q ^ m
   sum-low rows v zero =
-      subst (λ (n : ℕ). n < q ^ m) (number-zeros q m) (number-below q m (zeros m) (zeros-vector q m f))
+      rw (number-zeros q m) at (number-below q m _ (zeros-vector q m f))
   sum-low rows v (suc j) =
       number-below q m _ (sum-vector (slice_index v j) (sum_to q m rows v j) (slice_index rows j))
 
@@ -73,8 +75,7 @@ module _ (q m : ℕ) (f : IsField q) where
       → sum_to q m rows u d ≡ sum_to q m rows v d
   sum-same rows u v zero same = refl
   sum-same rows u v (suc j) same =
-      ap (λ (s : ℕ). with_row q m rows j s (slice_index u j)) (sum-same rows u v j (λ x low. same x (omega arith)))
-      ∙ ap (λ (c : ℕ). with_row q m rows j (sum_to q m rows v j) c) (same j (omega arith))
+      cc (sum-same rows u v j (λ x low. same x (omega arith)), same j (omega arith))
 
   module _ (rows other : List ℕ) (i d : ℕ) (stay : (x : ℕ) → d ≤ x → x < i → slice_index other x ≡ slice_index rows x)
     where
@@ -83,23 +84,20 @@ module _ (q m : ℕ) (f : IsField q) where
           → sum_to q m other v e ≡ sum_of q 1 m (sum_to q m rows v e) z
           → sum_to q m other v (suc e) ≡ sum_of q 1 m (sum_to q m rows v (suc e)) z
       moved-next v z e le less h =
-          let c : ℕ = slice_index v e in
-          let s : ℕ = sum_to q m rows v e in
-          ap (λ (t : ℕ). sum_of q c m t (slice_index other e)) h
-          ∙ ap (λ (r : ℕ). sum_of q c m (sum_of q 1 m s z) r) (stay e le less)
-          ∙ added_last c s z (slice_index rows e)
+          let c = slice_index v e in
+          let s = sum_to q m rows v e in
+          cc (stay e le less, added_last c s z (slice_index rows e))
 
       moved : (v : List ℕ) (z n : ℕ) → d + n ≤ i
           → sum_to q m other v d ≡ sum_of q 1 m (sum_to q m rows v d) z
           → sum_to q m other v (d + n) ≡ sum_of q 1 m (sum_to q m rows v (d + n)) z
       moved v z zero low h =
           let at : d ≡ d + zero = omega arith in
-          subst (λ (e : ℕ). sum_to q m other v e ≡ sum_of q 1 m (sum_to q m rows v e) z) at h
+          rw at at h
       moved v z (suc n) low h =
           let at : suc (d + n) ≡ d + suc n = omega arith in
           let before : d + n ≤ i = omega arith in
-          subst (λ (e : ℕ). sum_to q m other v e ≡ sum_of q 1 m (sum_to q m rows v e) z) at
-          (moved-next v z (d + n) (omega arith) (omega arith) (moved v z n before h))
+          rw (← at) (moved-next v z (d + n) (omega arith) (omega arith) (moved v z n before h))
 
       moved-all : (v : List ℕ) (z : ℕ) → d ≤ i
           → sum_to q m other v d ≡ sum_of q 1 m (sum_to q m rows v d) z
@@ -107,18 +105,18 @@ module _ (q m : ℕ) (f : IsField q) where
       moved-all v z low h =
           let at : d + (i - d) ≡ i = omega arith in
           let fits : d + (i - d) ≤ i = omega arith in
-          subst (λ (e : ℕ). sum_to q m other v e ≡ sum_of q 1 m (sum_to q m rows v e) z) at (moved v z (i - d) fits h)
+          rw at at (moved v z (i - d) fits h)
 
       -- so vectors with the same codes before them and the same sum have the same sum again
       sum-moved : (u v : List ℕ) → d ≤ i → ((x : ℕ) → x < d → slice_index u x ≡ slice_index v x)
           → sum_to q m rows u i ≡ sum_to q m rows v i → sum_to q m other u i ≡ sum_to q m other v i
       sum-moved u v low same sum =
-          let z : ℕ = difference (sum_to q m rows u d) (sum_to q m other u d) in
-          let at_u : sum_to q m other u d ≡ sum_of q 1 m (sum_to q m rows u d) z =
-          sym (difference-is (sum_to q m rows u d) (sum_to q m other u d) (sum-low other u d)) in
-          let at_v : sum_to q m other v d ≡ sum_of q 1 m (sum_to q m rows v d) z =
-          sym (sum-same other u v d same) ∙ at_u ∙ ap (λ (s : ℕ). sum_of q 1 m s z) (sum-same rows u v d same) in
-          moved-all u z low at_u ∙ ap (λ (s : ℕ). sum_of q 1 m s z) sum ∙ sym (moved-all v z low at_v)
+          let z = difference (sum_to q m rows u d) (sum_to q m other u d) in
+          let at_u =
+          sym (difference-is (sum_to q m rows u d) _ (sum-low other u d)) in
+          let at_v =
+          sym (sum-same other u v d same) ∙ at_u ∙ ap (λ s. sum_of q 1 m s z) (sum-same rows u v d same) in
+          cc (moved-all u z low at_u, moved-all v z low at_v)
 
       -- and the places stand for all again
       stand-moved : (words : List ForbiddenVector) (depth : ℕ) (at : ℕ → ℕ) (count : ℕ) → d ≤ i → d ≤ depth
@@ -149,7 +147,7 @@ module _ (q m : ℕ) (f : IsField q) where
           → StandFor q m other words i i (place_at list start) (place_count list start end)
       stands-kept words depth start end [] some low le h = absurd (omega arith)
       stands-kept words depth start end (p ∷ list) some low le h =
-          stand-moved words depth (slice_index (p ∷ list)) (length (p ∷ list)) low le h
+          stand-moved words depth _ _ low le h
 
 module _ (q m : ℕ) (rows : List ℕ) (words : List ForbiddenVector) (i d start : ℕ) where
   -- no vector
@@ -175,8 +173,7 @@ module _ (q m : ℕ) (rows : List ℕ) (words : List ForbiddenVector) (i d start
               | inl before ↦ h.all p le before
               | inr late ↦
                   let same : k ≡ p = omega arith in
-                  subst (λ (p : ℕ). IsStoodBefore q m rows words i d (slice_index list) (length list) p) same
-                  (record {
+                  rw (← same) (record {
                     index = one.0;
                     low = one.1;
                     before = (let b = h.below one.0 one.1 in omega arith);
@@ -193,8 +190,8 @@ module _ (q m : ℕ) (rows : List ℕ) (words : List ForbiddenVector) (i d start
       record {
         each = λ x low.
             elim (cases_lt x (length list)) [
-              | inl less ↦ subst (λ (p : ℕ). HasLast words i p) (sym (front x less)) (h.each x less)
-              | inr le ↦ subst (λ (p : ℕ). HasLast words i p) (sym (back x (end x low le))) has
+              | inl less ↦ rw (front x less) (h.each x less)
+              | inr le ↦ rw (back x (end x low le)) has
             ];
         rising = λ x y less low.
             elim (cases_lt y (length list)) [
@@ -226,7 +223,7 @@ module _ (q m : ℕ) (rows : List ℕ) (words : List ForbiddenVector) (i d start
                     low = (let l = s.low in let z = size in omega arith);
                     before = (let b = s.before in omega arith);
                     alike =
-                        subst (λ (x : ℕ). AreAlikeBefore q m rows words i d x p) (sym same) s.alike;
+                        rw same s.alike;
                   }
               | inr late ↦
                   let is : p ≡ k = omega arith in
@@ -237,8 +234,8 @@ module _ (q m : ℕ) (rows : List ℕ) (words : List ForbiddenVector) (i d start
                     before = omega arith;
                     alike =
                         record {
-                          sum = ap (λ (x : ℕ). sum_to q m rows (vector_at words x) i) (here ∙ sym is);
-                          codes = λ x _. ap (λ (y : ℕ). slice_index (vector_at words y) x) (here ∙ sym is);
+                          sum = cc;
+                          codes = λ x _. cc;
                         };
                   }
             ];
@@ -254,7 +251,7 @@ module _ (q m : ℕ) (rows : List ℕ) (words : List ForbiddenVector) (i d start
       end x low le = let s = size in omega arith
 
       back : (x : ℕ) → x ≡ (length list) → slice_index (list ++ k ∷ []) x ≡ k
-      back x e = ap (λ (z : ℕ). slice_index (list ++ k ∷ []) z) e ∙ get_or-append_seam list k [] 0
+      back x e = cc (get_or-append_seam list k [] 0)
 
   -- one vector more
   pub before-next : (k : ℕ) (list longer : List ℕ) → HasLast words i k
@@ -263,11 +260,9 @@ module _ (q m : ℕ) (rows : List ℕ) (words : List ForbiddenVector) (i d start
   before-next k list longer has added h =
       elim added [
         | inl known ↦
-            subst (λ (l : List ℕ). IsListedBefore q m rows words i d start (k + 1) l) (sym known.same)
-            (before-skip k list known.one h)
+            rw known.same (before-skip k list known.one h)
         | inr new ↦
-            subst (λ (l : List ℕ). IsListedBefore q m rows words i d start (k + 1) l) (sym new)
-            (before-add k list has h)
+            rw new (before-add k list has h)
       ]
 
   -- all vectors
@@ -286,13 +281,11 @@ pub kept-start : (q m room : ℕ) (words : List ForbiddenVector) (kept : List Ke
     → kept ≡ replicate count (record { rows = []; depth = 0; list = [] }) → AreKept q m room words kept
 kept-start q m room words kept count is none =
     let empty : Kept = record { rows = []; depth = 0; list = [] } in
-    let len : length kept ≡ count = ap length none ∙ length-replicate count empty in
+    let len = ap length none ∙ length-replicate count empty in
     record {
-      len = len ∙ is;
+      len = cc;
       each = λ i d low.
-          subst (λ (k : Kept). IsKept q m words i k)
-          (sym
-          (ap (λ (l : List Kept). slice_index_or l i d) none ∙ get_or-replicate count i empty d (omega arith)))
+          rw (ap (λ l. slice_index_or l i d) none ∙ get_or-replicate count i empty d (omega arith))
           (λ some. absurd (omega arith));
     }
 
@@ -303,15 +296,12 @@ pub kept-set : (q m room : ℕ) (words : List ForbiddenVector) (kept : List Kept
 kept-set q m room words kept n made h low is =
     let size = length-set kept n made in
     record {
-      len = size ∙ h.len;
+      len = cc;
       each = λ i d less.
           elim (cases_eq i n) [
             | inl same ↦
-                subst (λ (k : Kept). IsKept q m words i k)
-                (sym (get_or-set_at kept n i made d same (let len = h.len in omega arith)))
-                (subst (λ (j : ℕ). IsKept q m words j made) (sym same) is)
+                rw (get_or-set_at kept n i made d same (let len = h.len in omega arith)) (rw (← same) at is)
             | inr apart ↦
-                subst (λ (k : Kept). IsKept q m words i k) (sym (get_or-set_other kept n i made d apart))
-                (h.each i d (let s = size in omega arith))
+                rw (get_or-set_other kept n i made d apart) (h.each i d (let s = size in omega arith))
           ];
     }

@@ -5,7 +5,7 @@ use Rattle.std.specs.Prelude.{All}
 use Rattle.std.proofs.lemmas.Bool.{cases_eq}
 use Rattle.std.proofs.lemmas.List.{take_all, get_or_default}
 use Rattle.fx_designs.specs.Galois.{number, digits, IsField}
-use Rattle.fx_designs.specs.Vectors.{IsVector, weight, is_zero, plus, scale}
+use Rattle.fx_designs.specs.Vectors.{IsVector, weight, is_zero, scale}
 use Rattle.fx_designs.specs.Problems.{Dimensions, Requirement}
 use Rattle.fx_designs.specs.Demands.{is_estimated}
 use Rattle.fx_laws.proofs.Codes.{digits-vector}
@@ -29,15 +29,13 @@ pub record IsListed (q m : ℕ) (rows : List ℕ) (vectors : List (List ℕ)) (i
 
 module _ (q m : ℕ) (f : IsField q) (rows : List ℕ) (vectors : List (List ℕ)) where
   some : 0 < q
-  some = omega (arith, f.more_than_one)
+  some = omega arith
 
   sum-turned : (a b : ℕ) → sum_of q 1 m a b ≡ sum_of q 1 m b a
   sum-turned a b =
       let one : (y : ℕ) → scale q 1 (digits q m y) ≡ digits q m y =
-      λ y. scale-one q m f (digits q m y) (digits-vector q m y some) in
-      ap (number q)
-      (ap (plus q (digits q m a)) (one b) ∙ plus-comm q f (digits q m a) (digits q m b) ∙ ap (plus q (digits q m b))
-      (sym (one a)))
+      λ y. scale-one q m f _ (digits-vector q m y some) in
+      cc (one b, plus-comm q f (digits q m a) (digits q m b), one a)
 
   abbrev total : List ℕ → ℕ
   total v = sum_to q m rows v (length rows)
@@ -45,10 +43,10 @@ module _ (q m : ℕ) (f : IsField q) (rows : List ℕ) (vectors : List (List ℕ
   -- a vector brings just minus its sum to zero
   at-minus : (v : List ℕ) (x : ℕ) → x < q ^ m → sum_of q 1 m (total v) x ≡ 0 → x ≡ minus_of q m f (total v)
   at-minus v x low e =
-      to-minus q m f x (total v) low (sum-below q m f rows v (length rows)) (sum-turned x (total v) ∙ e)
+      to-minus q m f x _ low (sum-below q m f rows v (length rows)) (sum-turned x (total v) ∙ e)
 
   minus-at : (v : List ℕ) (x : ℕ) → x ≡ minus_of q m f (total v) → sum_of q 1 m (total v) x ≡ 0
-  minus-at v x e = sum-turned (total v) x ∙ from-minus q m f x (total v) (sum-below q m f rows v (length rows)) e
+  minus-at v x e = sum-turned (total v) x ∙ from-minus q m f x _ (sum-below q m f rows v (length rows)) e
 
   pub listed-first : (x : ℕ) → IsBestOf (IsListed q m rows vectors 0 x) q None
   listed-first x = λ v h. (let low = h.before in absurd (omega arith))
@@ -61,7 +59,7 @@ module _ (q m : ℕ) (f : IsField q) (rows : List ℕ) (vectors : List (List ℕ
         weighs = w;
         counts = n;
         none_better = λ u e. inr
-            (ap weight (sym e), subst (λ (l : List ℕ). number q l ≤ number q v) (sym e) (omega arith));
+            (ap weight (sym e), subst (λ l. number q l ≤ number q v) (sym e) (omega arith));
       }
 
   pub listed-here : (i x : ℕ) (v : List ℕ) (old : Option Best) (b : Best) → slice_index_or vectors i [] ≡ v
@@ -70,16 +68,16 @@ module _ (q m : ℕ) (f : IsField q) (rows : List ℕ) (vectors : List (List ℕ
       → IsBestOf (IsListed q m rows vectors (i + 1) x) q (preferred old (Some b))
   listed-here i x v old b is at w n h =
       preferred-best (IsListed q m rows vectors i x) (λ w. w ≡ v) (IsListed q m rows vectors (i + 1) x) q
-      (λ u hu. record { place = hu.place; before = omega (arith, hu.before); is = hu.is; sum = hu.sum })
+      (λ u hu. record { place = hu.place; before = omega arith; is = hu.is; sum = hu.sum })
       (λ u e. record {
         place = i;
         before = omega arith;
-        is = is ∙ sym e;
-        sum = ap (λ (l : List ℕ). sum_of q 1 m (total l) x) e ∙ minus-at v x at;
+        is = cc;
+        sum = cc (minus-at v x at);
       })
       (λ u hu. elim (cases_eq hu.place i) [
-        | inl last ↦ inr (sym hu.is ∙ ap (λ (k : ℕ). slice_index_or vectors k []) last ∙ is)
-        | inr other ↦ inl (record { place = hu.place; before = omega (arith, hu.before); is = hu.is; sum = hu.sum })
+        | inl last ↦ inr (sym hu.is ∙ ap (λ k. slice_index_or vectors k []) last ∙ is)
+        | inr other ↦ inl (record { place = hu.place; before = omega arith; is = hu.is; sum = hu.sum })
       ])
       old (Some b) h (alone v b w n)
 
@@ -88,12 +86,12 @@ module _ (q m : ℕ) (f : IsField q) (rows : List ℕ) (vectors : List (List ℕ
       → IsBestOf (IsListed q m rows vectors i x) q old → IsBestOf (IsListed q m rows vectors (i + 1) x) q old
   listed-elsewhere i x v old low is apart h =
       best-same (IsListed q m rows vectors i x) (IsListed q m rows vectors (i + 1) x) q old
-      (λ u hu. record { place = hu.place; before = omega (arith, hu.before); is = hu.is; sum = hu.sum })
+      (λ u hu. record { place = hu.place; before = omega arith; is = hu.is; sum = hu.sum })
       (λ u hu. elim (cases_eq hu.place i) [
         | inl last ↦
-            let same : v ≡ u = sym is ∙ ap (λ (k : ℕ). slice_index_or vectors k []) (sym last) ∙ hu.is in
-            absurd (apart (at-minus v x low (ap (λ (l : List ℕ). sum_of q 1 m (total l) x) same ∙ hu.sum)))
-        | inr other ↦ record { place = hu.place; before = omega (arith, hu.before); is = hu.is; sum = hu.sum }
+            let same : v ≡ u = cc in
+            absurd (apart (at-minus v x low (cc)))
+        | inr other ↦ record { place = hu.place; before = omega arith; is = hu.is; sum = hu.sum }
       ])
       h
 
@@ -105,26 +103,24 @@ best-listed d wanted rows vectors x o all each lists h =
     best-same (IsListed d.q d.m rows vectors (length vectors) x) (BringsToZero d wanted rows x) d.q o
     (λ v hv.
     (let here = get_or_default vectors hv.place [] v hv.before in
-    let is : slice_index_or vectors hv.place v ≡ v = sym here ∙ hv.is in
+    let is = sym here ∙ hv.is in
     let vector : IsVector d.q d.s v = subst (IsVector d.q d.s) is (each hv.place v hv.before) in
     let passes : (is_zero v || is_estimated wanted v) ≡ true =
-    ap (λ (l : List ℕ). is_zero l || is_estimated wanted l) (sym is) ∙ lists.each hv.place v hv.before in
+    cc (lists.each hv.place v hv.before) in
     record {
-      vector = subst (λ (k : ℕ). IsVector d.q k v) (sym all) vector;
-      factors = ap (λ (l : List ℕ). is_zero l || is_estimated wanted l) (take_all d.s v (omega (arith, vector.len))) ∙
-          passes;
+      vector = rw all vector;
+      factors = cc (take_all d.s v (omega arith));
       sum = hv.sum;
     }))
     (λ v hv.
-    (let vector : IsVector d.q d.s v = subst (λ (k : ℕ). IsVector d.q k v) all hv.vector in
+    (let vector = rw all at hv.vector in
     let passes : (is_zero v || is_estimated wanted v) ≡ true =
-    ap (λ (l : List ℕ). is_zero l || is_estimated wanted l) (sym (take_all d.s v (omega (arith, vector.len)))) ∙
-    hv.factors in
+    cc (take_all d.s v (omega arith)) in
     let there = lists.all v vector passes in
     record {
       place = there.0;
       before = there.1;
-      is = get_or_default vectors there.0 [] v there.1 ∙ there.2;
+      is = cc (get_or_default vectors there.0 [] v there.1);
       sum = hv.sum;
     }))
     h

@@ -21,19 +21,19 @@ pub stands-at : (reached : ReachedView) (words : List ForbiddenVector) (i l d st
 stands-at reached words i l d start end [] range h le low =
     stand-range reached.q reached.m reached.rows words i d start end range.le range.within range.has
 stands-at reached words i l d start end (p ∷ list) range h le low =
-    stand-later reached.q reached.m reached.rows words i (i - (16 - 4 * l)) d (slice_index (p ∷ list))
-    (length (p ∷ list)) le low (h.stand (let some : 0 < length (p ∷ list) = omega arith in some))
+    stand-later reached.q reached.m reached.rows words i _ d _
+    _ le low (h.stand (let some : 0 < length (p ∷ list) = omega arith in some))
 
 -- the list at a place
 pub stands-in : (reached : ReachedView) (words : List ForbiddenVector) (i l d start end : ℕ) (lists : List (List ℕ))
     (place : ℕ) (other : List ℕ) → IsRange words i start end → AreLists reached words lists → i < reached.room → l < 4
-    → place ≡ 4 * i + l → i - (16 - 4 * l) ≤ d → d ≤ i → slice_index_or lists place other ≡ slice_index_or lists place []
+    → place ≡ 4 * i + l → i - (16 - 4 * l) ≤ d → d ≤ i
+    → slice_index_or lists place other ≡ slice_index_or lists place []
     → StandFor reached.q reached.m reached.rows words i d (place_at (slice_index_or lists place other) start)
     (place_count (slice_index_or lists place other) start end)
 stands-in reached words i l d start end lists place other range h room few at le low same =
-    subst (λ (list : List ℕ). StandFor reached.q reached.m reached.rows words i d (place_at list start)
-    (place_count list start end)) (sym (same ∙ ap (λ (k : ℕ). slice_index_or lists k []) at))
-    (stands-at reached words i l d start end (slice_index_or lists (4 * i + l) []) range (h.each i l room few) le low)
+    rw (same ∙ ap (λ k. slice_index_or lists k []) at)
+    (stands-at reached words i l d start end _ range (h.each i l room few) le low)
 
 abbrev any : ForbiddenVector
 any = record { vector = []; class = 0; number = 0 }
@@ -85,20 +85,19 @@ pub lists-set : (reached : ReachedView) (words : List ForbiddenVector) (l : ℕ)
     → AreLists reached words (slice_set lists (4 * length reached.rows + l) made)
 lists-set reached words l lists made h room some few stand =
     record {
-      len = length-set lists (4 * length reached.rows + l) made ∙ h.len;
+      len = cc (length-set lists (4 * length reached.rows + l) made);
       each = λ i k low small.
           elim (cases_eq (4 * i + k) (4 * length reached.rows + l)) [
             | inl same ↦
                 let i_is : i ≡ length reached.rows = omega arith in
                 let k_is : k ≡ l = omega arith in
-                subst (λ (list : List ℕ). IsList reached words i k list)
-                (sym (get_or-set_at lists (4 * length reached.rows + l) (4 * i + k) made [] same (let len = h.len in omega arith)))
-                (subst (λ (j : ℕ). IsList reached words j k made) (sym i_is)
-                (subst (λ (j : ℕ). IsList reached words (length reached.rows) j made) (sym k_is)
+                rw (get_or-set_at lists _ _ made [] same (let len = h.len in omega arith))
+                (subst (λ j. IsList reached words j k made) (sym i_is)
+                (subst (λ j. IsList reached words (length reached.rows) j made) (sym k_is)
                 (record { some = λ _. some; within = λ _. (omega arith); stand = stand })))
             | inr apart ↦
-                subst (λ (list : List ℕ). IsList reached words i k list)
-                (sym (get_or-set_other lists (4 * length reached.rows + l) (4 * i + k) made [] apart)) (h.each i k low small)
+                rw (get_or-set_other lists (4 * length reached.rows + l) (4 * i + k) made [] apart)
+                (h.each i k low small)
           ];
     }
 
@@ -118,7 +117,7 @@ stand-rows q m rows other words i d at count same h =
             before = s.before;
             alike =
                 record {
-                  sum = same (vector_at words (at s.index)) ∙ s.alike.sum ∙ sym (same (vector_at words k));
+                  sum = cc (same (vector_at words (at s.index)), s.alike.sum, same (vector_at words k));
                   codes = s.alike.codes;
                 };
           });
@@ -139,9 +138,10 @@ lists-push reached x words lists h =
             within = λ full. (let w = is.within full in omega arith);
             stand = λ full.
                 (let w = is.within full in
-                stand-rows reached.q reached.m reached.rows (reached.rows ++ x ∷ []) words i (i - (16 - 4 * l))
-                (slice_index (slice_index_or lists (4 * i + l) [])) (length (slice_index_or lists (4 * i + l) []))
-                (λ v. sum-before reached.q reached.m reached.rows x v (i - (16 - 4 * l)) (omega arith)) (is.stand full));
+                stand-rows reached.q reached.m reached.rows _ words i _
+                _ _
+                (λ v. sum-before reached.q reached.m reached.rows x v (i - (16 - 4 * l)) (omega arith))
+                (is.stand full));
           });
     }
 
@@ -153,18 +153,18 @@ pub lists-pop : (reached : ReachedView) (words : List ForbiddenVector) (lists ot
     → AreLists (record reached { rows = take (length reached.rows - 1) reached.rows }) words other
 lists-pop reached words lists other some h len kept dropped =
     record {
-      len = len ∙ h.len;
+      len = cc;
       each = λ i l low few.
           (let old = h.each i l low few in
-          let n : ℕ = length reached.rows - 1 in
-          let front : List ℕ = take n reached.rows in
-          let last : ℕ = slice_index reached.rows n in
-          let whole : front ++ last ∷ [] ≡ reached.rows = all-but-last reached.rows some in
+          let n = length reached.rows - 1 in
+          let front = take n reached.rows in
+          let last = slice_index reached.rows n in
+          let whole = all-but-last reached.rows some in
           let short : length front ≡ n = length-take n reached.rows ∙ (omega arith) in
-          let list : List ℕ = slice_index_or other (4 * i + l) [] in
-          let same : 0 < length list → list ≡ slice_index_or lists (4 * i + l) [] = kept (4 * i + l) in
+          let list = slice_index_or other (4 * i + l) [] in
+          let same = kept (4 * i + l) in
           let full_old : 0 < length list → 0 < length (slice_index_or lists (4 * i + l) []) =
-          λ full. subst (λ (x : List ℕ). 0 < length x) (same full) full in
+          λ full. rw (same full) at full in
           let within : 0 < length list → i ≤ n + (16 - 4 * l) =
           λ full.
           (let w = old.within (full_old full) in
@@ -172,8 +172,8 @@ lists-pop reached words lists other some h len kept dropped =
           elim (cases_eq i (length reached.rows + (16 - 4 * l))) [
             | inl late ↦
                 let gone : list ≡ [] =
-                ap (λ (k : ℕ). slice_index_or other (4 * k + l) []) late ∙ dropped l up few in
-                let none : length list ≡ 0 = ap length gone in
+                cc (dropped l up few) in
+                let none = ap length gone in
                 absurd (omega arith)
             | inr early ↦ (omega arith)
           ]) in
@@ -182,12 +182,10 @@ lists-pop reached words lists other some h len kept dropped =
             within = λ full. (let w = within full in omega arith);
             stand = λ full.
                 (let w = within full in
-                subst (λ (x : List ℕ). StandFor reached.q reached.m front words i (i - (16 - 4 * l)) (slice_index x)
-                (length x)) (sym (same full))
-                (stand-rows reached.q reached.m reached.rows front words i (i - (16 - 4 * l))
-                (slice_index (slice_index_or lists (4 * i + l) [])) (length (slice_index_or lists (4 * i + l) []))
+                rw (same full) (stand-rows reached.q reached.m reached.rows front words i _
+                _ _
                 (λ v. sym (sum-before reached.q reached.m front last v (i - (16 - 4 * l)) (omega arith))
-                ∙ ap (λ (r : List ℕ). sum_to reached.q reached.m r v (i - (16 - 4 * l))) whole)
+                ∙ ap (λ r. sum_to reached.q reached.m r v (i - (16 - 4 * l))) whole)
                 (old.stand (full_old full))));
           });
     }

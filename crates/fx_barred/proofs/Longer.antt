@@ -1,14 +1,14 @@
 -- One row more than the rows of a prefix: the word with a single code, at the new row; and where the prefix is allowed,
 -- no closing word is one of the rows before.
 use Rattle.std.proofs.Common.{ℕ, ◌≡◌, ◌<◌, ◌≤◌, ◌+◌, ◌-◌, ◌^◌, zero, suc, true, List, [], ◌∷◌, ◌++◌, take, drop, set}
-use Rattle.std.proofs.Common.{get_or, length, length-append, subst, refl, sym, ◌∙◌, ap, arith, take-append-drop}
+use Rattle.std.proofs.Common.{get_or, length, length-append, refl, arith, take-append-drop}
 use Rattle.std.proofs.Common.{length-take}
 use Rattle.std.specs.List.{AllByRecursion}
 use Rattle.std.proofs.lemmas.Bool.{both_ways}
 use Rattle.std.proofs.lemmas.List.{get_or_push}
 use Rattle.fx_base.proofs.Lists.{each-append}
 use Rattle.fx_designs.specs.Galois.{number, digits, IsField}
-use Rattle.fx_designs.specs.Vectors.{IsVector, zeros, plus, scale, combination, vectors_of}
+use Rattle.fx_designs.specs.Vectors.{IsVector, zeros, combination, vectors_of}
 use Rattle.fx_designs.specs.Problems.{Dimensions, Requirement}
 use Rattle.fx_designs.specs.Demands.{is_allowed}
 use Rattle.fx_laws.proofs.Codes.{digits-vector, number-zeros}
@@ -27,26 +27,26 @@ module _ (d : Dimensions) (f : IsField d.q) (rows : List ℕ) (below : AllByRecu
   length-longer = length-append rows (x ∷ [])
 
   pub fits-longer : length (rows ++ x ∷ []) ≤ d.s + d.t
-  fits-longer = omega (arith, length-longer, part)
+  fits-longer = omega (arith, length-longer)
 
   pub below-longer : AllByRecursion (λ y. y < d.q ^ d.m) (rows ++ x ∷ [])
-  below-longer = each-append (λ y. y < d.q ^ d.m) rows (x ∷ []) below (x-below, tt)
+  below-longer = each-append _ rows (x ∷ []) below (x-below, tt)
 
   abbrev pub single : List ℕ
   single = set (zeros (d.s + d.t)) (length rows) 1
 
   pub vector-single : IsVector d.q (d.s + d.t) single
   vector-single =
-      vector-set d.q (d.s + d.t) 1 (length rows) (zeros (d.s + d.t)) f.more_than_one (zeros-vector d.q (d.s + d.t) f)
+      vector-set d.q _ 1 (length rows) _ f.more_than_one (zeros-vector d.q (d.s + d.t) f)
 
   pub front-single : drop (length rows) single ≡ 1 ∷ zeros (d.s + d.t - (length rows + 1))
-  front-single = first-begins d f (rows ++ x ∷ []) below-longer fits-longer (length rows) part
+  front-single = first-begins d f _ below-longer fits-longer _ part
 
   pub number-single : number d.q single ≡ d.q ^ length rows
   number-single =
-      let n : ℕ = d.s + d.t in
-      let there : length rows < length (zeros n) = omega (arith, length-zeros n, part) in
-      let value = number-set d.q 1 (length rows) (zeros n) there (zero-at (length rows) n) in
+      let n = d.s + d.t in
+      let there : length rows < length (zeros n) = omega (arith, length-zeros n) in
+      let value = number-set d.q 1 _ (zeros n) there (zero-at (length rows) n) in
       let none = number-zeros d.q n in
       omega arith
     where
@@ -57,8 +57,8 @@ module _ (d : Dimensions) (f : IsField d.q) (rows : List ℕ) (below : AllByRecu
 
   pub partial-single : IsPartial d (rows ++ x ∷ []) (length rows) single x
   partial-single =
-      subst (λ (y : ℕ). IsPartial d (rows ++ x ∷ []) (length rows) single y) (get_or_push rows x 0 (length rows) refl)
-      (partial_first d f (rows ++ x ∷ []) below-longer fits-longer (length rows) (omega (arith, length-longer))
+      rw (get_or_push rows x 0 (length rows) refl) at
+      (partial_first d f _ below-longer fits-longer (length rows) (omega (arith, length-longer))
       vector-single)
 
 module _ (d : Dimensions) (f : IsField d.q) (wanted : Requirement) (rows : List ℕ)
@@ -77,7 +77,7 @@ module _ (d : Dimensions) (f : IsField d.q) (wanted : Requirement) (rows : List 
   longer = rows ++ x ∷ []
 
   some : 0 < q
-  some = omega (arith, f.more_than_one)
+  some = omega arith
 
   -- over the rows before, with zeros after them
   sum-before : (u : List ℕ) (rs : List (List ℕ)) (v : List ℕ) (j : ℕ) → length u ≡ length rs → IsVector q d.m v
@@ -87,37 +87,37 @@ module _ (d : Dimensions) (f : IsField d.q) (wanted : Requirement) (rows : List 
   sum-before [] (s ∷ rs) v j e hv hr = absurd (omega arith)
   sum-before (a ∷ u) [] v j e hv hr = absurd (omega arith)
   sum-before (a ∷ u) (s ∷ rs) v j e hv hr =
-      ap (λ (y : List ℕ). plus q (scale q a s) y) (sum-before u rs v j (omega arith) hv hr.1)
+      cc (sum-before u rs v j (omega arith) hv hr.1)
 
   -- the vectors of the longer rows
   pub vectors-longer : (rs : List ℕ) → vectors_of q d.m (rs ++ x ∷ []) ≡ vectors_of q d.m rs ++ digits q d.m x ∷ []
   vectors-longer [] = refl
-  vectors-longer (y ∷ rs) = ap (λ (l : List (List ℕ)). digits q d.m y ∷ l) (vectors-longer rs)
+  vectors-longer (y ∷ rs) = cc (vectors-longer rs)
 
   pub length-vectors : (rs : List ℕ) → length (vectors_of q d.m rs) ≡ length rs
   length-vectors [] = refl
-  length-vectors (y ∷ rs) = ap suc (length-vectors rs)
+  length-vectors (y ∷ rs) = cc (length-vectors rs)
 
   -- no closing word is one of the rows before
   pub not_before : (other : List ℕ) → IsClosing d wanted longer other → drop k other ≡ zeros (n - k) → ⊥
   not_before other h front =
       let l = length-take k other in
       let parts : take k other ++ zeros (n - k) ≡ other =
-      ap (λ (z : List ℕ). take k other ++ z) (sym front) ∙ take-append-drop k other in
+      cc (take-append-drop k other) in
       let same_length : length (take k other) ≡ length (vectors_of q d.m rows) =
-      omega (arith, h.vector.len, length-vectors rows, part) in
+      omega (arith, length-vectors rows) in
       let same : combination q d.m other (vectors_of q d.m longer) ≡ combination q d.m other (vectors_of q d.m rows) =
-      ap (combination q d.m other) (vectors-longer rows) ∙ ap
-      (λ (w : List ℕ). combination q d.m w (vectors_of q d.m rows ++ digits q d.m x ∷ [])) (sym parts)
-      ∙ sum-before (take k other) (vectors_of q d.m rows) (digits q d.m x) (n - k) same_length
-      (digits-vector q d.m x some) (are_vectors q d.m rows some)
-      ∙ ap (λ (w : List ℕ). combination q d.m w (vectors_of q d.m rows)) parts in
+      cc (
+        vectors-longer rows,
+        sum-before (take k other) (vectors_of q d.m rows) _ (n - k) same_length
+            (digits-vector q d.m x some) (are_vectors q d.m rows some),
+      ) in
       both_ways _
-      (not_allowed d f wanted rows (omega (arith, part)) other
+      (not_allowed d f wanted rows (omega arith) other
       (record {
         vector = h.vector;
         on_rows = front;
         normal = h.normal;
-        hit = record { zero_sum = sym same ∙ h.hit.zero_sum; forbidden = h.hit.forbidden };
+        hit = record { zero_sum = cc h.hit.zero_sum; forbidden = h.hit.forbidden };
       }))
       allowed-so-far

@@ -1,11 +1,10 @@
 -- Places that stand for all vectors with their last factor right after some rows.
-use Rattle.std.proofs.Common.{ℕ, ◌≡◌, ◌≢◌, ◌<◌, ◌≤◌, ◌+◌, ◌-◌, ◌^◌, zero, suc, cond, eqb, List, [], ◌∷◌, Bool}
+use Rattle.std.proofs.Common.{ℕ, ◌≡◌, ◌≢◌, ◌<◌, ◌≤◌, ◌+◌, ◌-◌, ◌^◌, zero, suc, cond, eqb, List, [], ◌∷◌}
 use Rattle.std.proofs.Common.{◌++◌, length, length-append, slice_index, refl, sym, subst, ap, ◌∙◌, arith, inl, inr}
 use Rattle.std.proofs.lemmas.Bool.{cases_eq, cases_lt, eq-eqb, ne_eqb}
 use Rattle.std.proofs.lemmas.List.{get_or_append_left}
 use Rattle.std.proofs.Math.Seq.{get_or-append_seam}
 use Rattle.fx_demands.specs.declared.forbidden_list.ForbiddenVector.{ForbiddenVector}
-use Rattle.fx_barred.specs.Reach.{with_row}
 use Rattle.fx_barred.specs.FirstWords.{sum_to, vector_at, HasSum, IsFirst, AreFirst}
 use Rattle.fx_barred.specs.Places.{HasLast, AreAlike, IsStoodFor, StandFor, ArePlaced, IsListed, IsKnown}
 
@@ -17,10 +16,10 @@ pub stays-some : (place k x : ℕ) (tables other : List ℕ)
 stays-some place k x tables other others here some z =
     elim (cases_eq x place) [
       | inl same ↦
-          let old : slice_index tables place ≢ 0 = λ e. some (ap (λ (j : ℕ). slice_index tables j) same ∙ e) in
-          let made = here ∙ ap (λ (t : Bool). cond t (k + 1) (slice_index tables place))
+          let old : slice_index tables place ≢ 0 = λ e. some (ap (slice_index tables) same ∙ e) in
+          let made = here ∙ ap (λ t. cond t (k + 1) (slice_index tables place))
           (ne_eqb (slice_index tables place) 0 old) in
-          old (sym made ∙ ap (λ (j : ℕ). slice_index other j) (sym same) ∙ z)
+          old (sym made ∙ ap (slice_index other) (sym same) ∙ z)
       | inr apart ↦ some (sym (others x apart) ∙ z)
     ]
 
@@ -30,9 +29,7 @@ module _ (q m : ℕ) (rows : List ℕ) (words : List ForbiddenVector) (i : ℕ) 
   alike-next d p k low h =
       record {
         sum =
-            ap (λ (s : ℕ). with_row q m rows d s (slice_index (vector_at words p) d)) h.sum
-            ∙ ap (λ (c : ℕ). with_row q m rows d (sum_to q m rows (vector_at words k) d) c)
-            (h.codes d (let same : d ≤ d = omega arith in same) low);
+            cc (h.codes d (let same : d ≤ d = omega arith in same) low);
         codes = λ x le less. h.codes x (omega arith) less;
       }
 
@@ -58,7 +55,7 @@ module _ (q m : ℕ) (rows : List ℕ) (words : List ForbiddenVector) (i : ℕ) 
               low = s.low;
               before = s.before;
               alike =
-                  subst (λ (x : ℕ). AreAlike q m rows words i x (at s.index) k) (omega arith)
+                  subst (λ x. AreAlike q m rows words i x (at s.index) k) (omega arith)
                   (alike-later (e - d) d (at s.index) k (omega arith) s.alike);
             });
       }
@@ -74,15 +71,15 @@ module _ (q m : ℕ) (rows : List ℕ) (words : List ForbiddenVector) (i : ℕ) 
         rising = λ x y less low. (omega arith);
         all = λ k is.
             (let w = within k is in
-            let back : start + (k - start) ≡ k = omega (arith, w.0) in
+            let back : start + (k - start) ≡ k = omega arith in
             record {
               index = k - start;
-              low = omega (arith, w.0, w.1);
-              before = omega (arith, w.0);
+              low = omega arith;
+              before = omega arith;
               alike =
                   record {
-                    sum = ap (λ (p : ℕ). sum_to q m rows (vector_at words p) d) back;
-                    codes = λ x _ _. ap (λ (p : ℕ). slice_index (vector_at words p) x) back;
+                    sum = cc;
+                    codes = λ x _ _. cc;
                   };
             });
       }
@@ -93,7 +90,7 @@ module _ (q m : ℕ) (rows : List ℕ) (words : List ForbiddenVector) (i : ℕ) 
         (s : IsStoodFor q m rows words i i at count k) → HasSum q m rows words i y (at s.index)
     stands-sum y k h has s =
         let is = h.each s.index s.low in
-        record { there = is.there; last = is.last; sum = s.alike.sum ∙ has.sum }
+        record { there = is.there; last = is.last; sum = cc s.alike.sum }
 
     last-of : (y k : ℕ) → HasSum q m rows words i y k → HasLast words i k
     last-of y k has = record { there = has.there; last = has.last }
@@ -115,19 +112,19 @@ module _ (q m : ℕ) (rows : List ℕ) (words : List ForbiddenVector) (i : ℕ) 
         ≡ cond (eqb (slice_index tables (first + y0)) 0) (at j + 1) (slice_index tables (first + y0))
         → ArePlaced q m rows words i at j first tables → ArePlaced q m rows words i at (j + 1) first other
     placed-more j first y0 tables other stand there has low0 others here h =
-        let old : ℕ = slice_index tables (first + y0) in
+        let old = slice_index tables (first + y0) in
         record {
           none = λ y low z x less t.
               elim (cases_eq y y0) [
                 | inl same ↦
                     let now : slice_index other (first + y0) ≡ 0 =
-                    ap (λ (k : ℕ). slice_index other (first + k)) (sym same) ∙ z in
+                    cc in
                     elim (cases_eq old 0) [
                       | inl none ↦
-                          let made = here ∙ ap (λ (t : Bool). cond t (at j + 1) old) (eq-eqb old 0 none) in
+                          let made = here ∙ ap (λ t. cond t (at j + 1) old) (eq-eqb old 0 none) in
                           absurd (omega arith)
                       | inr some ↦
-                          let made = here ∙ ap (λ (t : Bool). cond t (at j + 1) old) (ne_eqb old 0 some) in
+                          let made = here ∙ ap (λ t. cond t (at j + 1) old) (ne_eqb old 0 some) in
                           absurd (some (sym made ∙ now))
                     ]
                 | inr apart ↦
@@ -135,7 +132,7 @@ module _ (q m : ℕ) (rows : List ℕ) (words : List ForbiddenVector) (i : ℕ) 
                     elim (cases_eq x j) [
                       | inl last ↦
                           apart
-                          (sym t.sum ∙ ap (λ (k : ℕ). sum_to q m rows (vector_at words (at k)) i) last ∙ has.sum)
+                          (sym t.sum ∙ ap (λ k. sum_to q m rows (vector_at words (at k)) i) last ∙ has.sum)
                       | inr before ↦ h.none y low (sym kept ∙ z) x (omega arith) t
                     ]
               ];
@@ -143,13 +140,12 @@ module _ (q m : ℕ) (rows : List ℕ) (words : List ForbiddenVector) (i : ℕ) 
               elim (cases_eq y y0) [
                 | inl same ↦
                     let now : slice_index other (first + y0) ≡ suc k =
-                    ap (λ (k : ℕ). slice_index other (first + k)) (sym same) ∙ e in
-                    subst (λ (y : ℕ). IsFirst q m rows words i y k) (sym same)
-                    (elim (cases_eq old 0) [
+                    cc in
+                    rw same (elim (cases_eq old 0) [
                       | inl none ↦
-                          let made = here ∙ ap (λ (t : Bool). cond t (at j + 1) old) (eq-eqb old 0 none) in
+                          let made = here ∙ ap (λ t. cond t (at j + 1) old) (eq-eqb old 0 none) in
                           let is : at j ≡ k = omega arith in
-                          subst (λ (k : ℕ). IsFirst q m rows words i y0 k) is
+                          subst (λ k. IsFirst q m rows words i y0 k) is
                           (record {
                             here = has;
                             none_before = λ l less t.
@@ -170,7 +166,7 @@ module _ (q m : ℕ) (rows : List ℕ) (words : List ForbiddenVector) (i : ℕ) 
                                 ]);
                           })
                       | inr some ↦
-                          let made = here ∙ ap (λ (t : Bool). cond t (at j + 1) old) (ne_eqb old 0 some) in
+                          let made = here ∙ ap (λ t. cond t (at j + 1) old) (ne_eqb old 0 some) in
                           h.some y0 k low0 (sym made ∙ now)
                     ])
                 | inr apart ↦
@@ -205,14 +201,14 @@ module _ (q m : ℕ) (rows : List ℕ) (words : List ForbiddenVector) (i : ℕ) 
     alike-across : (a b k : ℕ) → AreAlike q m rows words i d a b → AreAlike q m rows words i d b k
         → AreAlike q m rows words i d a k
     alike-across a b k h g =
-        record { sum = h.sum ∙ g.sum; codes = λ x le less. h.codes x le less ∙ g.codes x le less }
+        record { sum = cc; codes = λ x le less. h.codes x le less ∙ g.codes x le less }
 
     -- the same place
     alike-same : (a k : ℕ) → a ≡ k → AreAlike q m rows words i d a k
     alike-same a k e =
         record {
-          sum = ap (λ (p : ℕ). sum_to q m rows (vector_at words p) d) e;
-          codes = λ x le less. ap (λ (p : ℕ). slice_index (vector_at words p) x) e;
+          sum = cc;
+          codes = λ x le less. cc;
         }
 
     -- no place
@@ -244,15 +240,14 @@ module _ (q m : ℕ) (rows : List ℕ) (words : List ForbiddenVector) (i : ℕ) 
                 | inl last ↦
                     let s = h.seen y0 known.place low0 known.one_more in
                     let under = h.below s.0 j s.1 (let le : j ≤ j = omega arith in le) there in
-                    subst (λ (z : ℕ). IsStoodFor q m rows words i d (slice_index list) (length list) (at z)) (sym last)
-                    (record {
+                    rw last (record {
                       index = s.0;
                       low = s.1;
                       before = omega arith;
                       alike =
-                          alike-across (slice_index list s.0) known.place (at j)
-                          (alike-same (slice_index list s.0) known.place s.2)
-                          (record { sum = s.3 ∙ sym total; codes = known.codes });
+                          alike-across _ known.place _
+                          (alike-same _ known.place s.2)
+                          (record { sum = cc; codes = known.codes });
                     })
                 | inr apart ↦ h.all x (omega arith)
               ];
@@ -271,9 +266,9 @@ module _ (q m : ℕ) (rows : List ℕ) (words : List ForbiddenVector) (i : ℕ) 
         record {
           each = λ x low.
               elim (cases_lt x (length list)) [
-                | inl less ↦ subst (λ (p : ℕ). HasLast words i p) (sym (front x less)) (h.each x less)
+                | inl less ↦ rw (front x less) (h.each x less)
                 | inr le ↦
-                    subst (λ (p : ℕ). HasLast words i p) (sym (back x (end x low le))) (stand.each j there)
+                    rw (back x (end x low le)) (stand.each j there)
               ];
           rising = λ x y less low.
               elim (cases_lt y (length list)) [
@@ -303,13 +298,12 @@ module _ (q m : ℕ) (rows : List ℕ) (words : List ForbiddenVector) (i : ℕ) 
           all = λ x low.
               elim (cases_eq x j) [
                 | inl last ↦
-                    subst (λ (z : ℕ). IsStoodFor q m rows words i d (slice_index (list ++ at j ∷ [])) (length (list ++ at j ∷ [])) (at z)) (sym last)
-                    (let fx = back (length list) refl in
+                    rw last (let fx = back (length list) refl in
                     record {
                       index = (length list);
                       low = omega (arith, size);
                       before = omega arith;
-                      alike = alike-same (slice_index (list ++ at j ∷ []) (length list)) (at j) fx;
+                      alike = alike-same _ _ fx;
                     })
                 | inr apart ↦
                     let s = h.all x (omega arith) in
@@ -318,28 +312,28 @@ module _ (q m : ℕ) (rows : List ℕ) (words : List ForbiddenVector) (i : ℕ) 
                     let in_it = s.low in
                     record {
                       index = s.index;
-                      low = omega (arith, size, s.low);
+                      low = omega (arith, size);
                       before = omega arith;
                       alike =
-                          alike-across (slice_index (list ++ at j ∷ []) s.index) (slice_index list s.index) (at x)
-                          (alike-same (slice_index (list ++ at j ∷ []) s.index) (slice_index list s.index) fx) s.alike;
+                          alike-across _ _ _
+                          (alike-same _ _ fx) s.alike;
                     }
               ];
           seen = λ y p low e.
               elim (cases_eq y y0) [
                 | inl same ↦
                     let now : slice_index other (first + y0) ≡ suc p =
-                    ap (λ (k : ℕ). slice_index other (first + k)) (sym same) ∙ e in
+                    cc in
                     let is : at j ≡ p = omega arith in (
                       (length list),
                       (omega (arith, size)),
-                      back (length list) refl ∙ is,
-                      ap (λ (k : ℕ). sum_to q m rows (vector_at words k) d) (sym is) ∙ total ∙ sym same,
+                      cc (back (length list) refl),
+                      cc,
                     )
                 | inr apart ↦
                     let s = h.seen y p low (sym (others (first + y) (λ e. apart (omega arith))) ∙ e) in
                     let in_it = s.1 in
-                    (s.0, (omega (arith, size, s.1)), front s.0 s.1 ∙ s.2, s.3)
+                    (s.0, (omega (arith, size)), cc (front s.0 s.1), s.3)
               ];
         }
       where
@@ -353,7 +347,7 @@ module _ (q m : ℕ) (rows : List ℕ) (words : List ForbiddenVector) (i : ℕ) 
         end x low le = let s = size in omega arith
 
         back : (x : ℕ) → x ≡ (length list) → slice_index (list ++ at j ∷ []) x ≡ at j
-        back x e = ap (λ (z : ℕ). slice_index (list ++ at j ∷ []) z) e ∙ get_or-append_seam list (at j) [] 0
+        back x e = cc (get_or-append_seam list (at j) [] 0)
 
     -- all places
     pub listed-end : (first : ℕ) (tables list : List ℕ) → StandFor q m rows words i d at count
@@ -372,7 +366,7 @@ module _ (q m : ℕ) (rows : List ℕ) (words : List ForbiddenVector) (i : ℕ) 
                 index = t.index;
                 low = t.low;
                 before = omega arith;
-                alike = alike-across (slice_index list t.index) (at s.index) k t.alike s.alike;
+                alike = alike-across _ _ k t.alike s.alike;
               });
         }
 
@@ -381,7 +375,7 @@ module _ (q m : ℕ) (rows : List ℕ) (words : List ForbiddenVector) (i : ℕ) 
         → IsListed q m rows words i d at count j first tables list
         → slice_index tables (first + y) ≤ length words
     listed-known j first y tables list low h =
-        let v : ℕ = slice_index tables (first + y) in
+        let v = slice_index tables (first + y) in
         elim (cases_eq v 0) [
           | inl none ↦ (omega arith)
           | inr some ↦

@@ -1,7 +1,7 @@
 -- A whole text that is read as a book is what is written of it.
 use Rattle.std.proofs.Common.{◌≡◌, ℕ, ◌+◌, ◌^◌, ◌<◌, ◌≤◌, inl, inr, Bool, true, ◌&&◌, cond, eqb, ltb, leb, List, []}
 use Rattle.std.proofs.Common.{◌∷◌, ◌++◌, map, length, Option, Some, None, Result, Ok, Err, refl, sym, ap, ◌∙◌, arith}
-use Rattle.std.proofs.Common.{subst, append_assoc}
+use Rattle.std.proofs.Common.{append_assoc}
 use Rattle.std.specs.Prelude.{codes, decimal}
 use Rattle.std.specs.Option.{is_some}
 use Rattle.std.specs.Str.{bytes_eq}
@@ -26,13 +26,13 @@ use Rattle.fx_book.specs.declared.version.Version.{Version}
 use Rattle.fx_book.specs.declared.version.Version.TheVariants.{First, Second}
 use Rattle.fx_book.specs.Versions.{title_of, version_of, most_factors_in}
 use Rattle.fx_book.specs.Parts.{split, number_of, numbers_of_parts}
-use Rattle.fx_book.specs.Entries.{entries_text}
 use Rattle.fx_book.specs.Reading.{entries}
 use Rattle.fx_book.specs.Demands.{demands_of, resolution_demands, resolution_within, numbered_effects, as_effects}
 use Rattle.fx_book.specs.Demands.{after_stroke}
 use Rattle.fx_book.specs.Demands.{with_effect, lists_of, may_be_asked, asked_for}
 use Rattle.fx_book.specs.Heads.{book_of, is_shape, shape_from, shape_of, may_be_beaten, whole_pattern, beat_from}
-use Rattle.fx_book.specs.Heads.{beat_of, from_title, with_version, with_head, head_of, from_demands, from_beat, with_line}
+use Rattle.fx_book.specs.Heads.{beat_of, with_version, with_head, head_of, from_demands, from_beat}
+use Rattle.fx_book.specs.Heads.{with_line}
 use Rattle.fx_book.specs.Heads.{with_shape, with_demands, with_beat, with_marks}
 use Rattle.fx_book.specs.Writing.{spaced, shape_text, demands_text, beat_text, text_in}
 use Rattle.fx_book.proofs.Numerals.{part_is, parts_are}
@@ -57,21 +57,24 @@ line_taken f make (line ∷ next ∷ lines) read h = (line, next ∷ lines, refl
 pub ended : (word : List ℕ) (ns rest : List ℕ)
     → (word ++ spaced ns) ++ 10 ∷ rest ≡ (word ++ (spaced ns ++ codes "\n")) ++ rest
 ended word ns rest =
-    append_assoc word (spaced ns) (10 ∷ rest)
-    ∙ sym (append_assoc word (spaced ns ++ codes "\n") rest ∙ ap (λ l. word ++ l)
-    (append_assoc (spaced ns) (10 ∷ []) rest))
+    cc (
+      append_assoc word (spaced ns) (10 ∷ rest),
+      append_assoc word (spaced ns ++ codes "\n") rest,
+      append_assoc
+          (spaced ns) (10 ∷ []) rest,
+    )
 
 few_factors : (version : Version) (q s : ℕ) → s ≤ most_factors_in version q
     → (s ≤ MOST_FACTORS) × (3 < q → s ≤ MOST_FACTORS_OF_MANY_LEVELS)
-few_factors First q s h = (omega (arith, h), λ many. h)
+few_factors First q s h = (omega arith, λ many. h)
 few_factors Second q s h =
     elim (cases_Bool (leb q 3)) [
-      | inl few ↦ let low : s ≤ MOST_FACTORS =
-          subst (λ n. s ≤ n) (cond-true (leb q 3) MOST_FACTORS MOST_FACTORS_OF_MANY_LEVELS few) h in
-          (low, λ many. absurd (let z = leb-true q 3 few in omega (arith, z, many)))
-      | inr many ↦ let low : s ≤ MOST_FACTORS_OF_MANY_LEVELS =
-          subst (λ n. s ≤ n) (cond-false (leb q 3) MOST_FACTORS MOST_FACTORS_OF_MANY_LEVELS many) h in
-          (omega (arith, low), λ more. low)
+      | inl few ↦ let low =
+          rw (cond-true _ MOST_FACTORS MOST_FACTORS_OF_MANY_LEVELS few) at h in
+          (low, λ many. absurd (let z = leb-true q 3 few in omega arith))
+      | inr many ↦ let low =
+          rw (cond-false _ MOST_FACTORS MOST_FACTORS_OF_MANY_LEVELS many) at h in
+          (omega arith, λ more. low)
     ]
 
 module _ (version : Version) (shape : Shape) where
@@ -86,16 +89,16 @@ module _ (version : Version) (shape : Shape) where
       elim (cases_Bool (is_shape version q m s t)) [
         | inl in' ↦
             let own : Shape = record { q = q; m = m; s = s; t = t } in
-            let z : Some own ≡ Some shape = sym (cond-true (is_shape version q m s t) (Some own) None in') ∙ h in
+            let z = sym (cond-true _ (Some own) None in') ∙ h in
             let e : own ≡ shape = cc z in (
-              ap (λ (x : Shape). Some x.q) e,
-              ap (λ (x : Shape). Some x.m) e,
-              ap (λ (x : Shape). Some x.s) e,
-              ap (λ (x : Shape). Some x.t) e,
-              subst (λ (x : Shape). is_shape version x.q x.m x.s x.t ≡ true) e in',
+              cc,
+              cc,
+              cc,
+              cc,
+              rw (← e) in',
             )
-        | inr out ↦ let z : None ≡ Some shape =
-            sym (cond-false (is_shape version q m s t) (Some (record { q = q; m = m; s = s; t = t })) None out) ∙ h in
+        | inr out ↦ let z =
+            sym (cond-false _ (Some (record { q = q; m = m; s = s; t = t })) None out) ∙ h in
             cc z
       ]
 
@@ -120,10 +123,10 @@ module _ (version : Version) (shape : Shape) where
       let f = and_parts _ _ e.1 in
       let g = and_parts _ _ f.1 in
       let most = few_factors version shape.q shape.s (leb-true _ _ f.0) in
-      let s : shape.s ≤ MOST_FACTORS = most.0 in
+      let s = most.0 in
       let blocks : 0 < shape.t → shape.s ≤ MOST_FACTORS_IN_BLOCKS =
       λ some. elim (or_cases _ _ g.1) [
-        | inl none ↦ absurd (let z : shape.t ≡ 0 = eqb-true _ _ none in omega (arith, z, some))
+        | inl none ↦ absurd (let z : shape.t ≡ 0 = eqb-true _ _ none in omega arith)
         | inr few ↦
             leb-true _ _ few
       ] in
@@ -163,20 +166,19 @@ module _ (version : Version) (shape : Shape) where
       elim (cases_Bool (bytes_eq word (codes "size"))) [
         | inl is ↦
             let k = shape_taken (number_of q) (number_of m) (number_of s) (number_of t)
-            (sym (cond-true (bytes_eq word (codes "size")) _ _ is) ∙ h) in
+            (sym (cond-true _ _ _ is) ∙ h) in
             let l = limits k.4 in (
               l,
-              ap (λ w. w ∷ q ∷ m ∷ s ∷ t ∷ []) (same_bytes word (codes "size") is)
-                  ∙ ap (λ x. codes "size" ∷ x ∷ m ∷ s ∷ t ∷ []) (part_is q shape.q k.0 (omega (arith, l.q)))
-                  ∙ ap (λ x. codes "size" ∷ decimal shape.q ∷ x ∷ s ∷ t ∷ [])
-                  (part_is m shape.m k.1 (omega (arith, l.m)))
-                  ∙ ap (λ x. codes "size" ∷ decimal shape.q ∷ decimal shape.m ∷ x ∷ t ∷ [])
-                  (part_is s shape.s k.2 (omega (arith, l.s)))
-                  ∙ ap (λ x. codes "size" ∷ decimal shape.q ∷ decimal shape.m ∷ decimal shape.s ∷ x ∷ [])
-                  (part_is t shape.t k.3 (omega (arith, l.t))),
+              cc (
+                same_bytes word _ is,
+                part_is q shape.q k.0 (omega arith),
+                part_is m shape.m k.1 (omega arith),
+                part_is s shape.s k.2 (omega arith),
+                part_is t shape.t k.3 (omega arith),
+              ),
             )
         | inr out ↦ let z =
-            sym (cond-false (bytes_eq word (codes "size"))
+            sym (cond-false _
             (shape_from version (number_of q) (number_of m) (number_of s) (number_of t)) None out) ∙ h in cc z
       ]
   shape_is (word ∷ q ∷ m ∷ s ∷ t ∷ other ∷ others) h = cc h
@@ -188,28 +190,28 @@ resolution_taken None asked h = cc h
 resolution_taken (Some r) asked h =
     elim (cases_Bool (leb 3 r && leb r 99)) [
       | inl in' ↦
-          let z : Some (Resolution r) ≡ Some asked = sym (cond-true (leb 3 r && leb r 99) _ None in') ∙ h in
+          let z : Some (Resolution r) ≡ Some asked = sym (cond-true _ _ None in') ∙ h in
           let e : Resolution r ≡ asked = cc z in
           let high : r ≤ 99 = leb-true _ _ (and_parts _ _ in').1 in
           (r, refl, omega arith, e)
-      | inr out ↦ let z : None ≡ Some asked =
-          sym (cond-false (leb 3 r && leb r 99) (Some (Resolution r)) None out) ∙ h in cc z
+      | inr out ↦ let z =
+          sym (cond-false _ (Some (Resolution r)) None out) ∙ h in cc z
     ]
 
 resolution_is : (parts : List (List ℕ)) (asked : Demands) (rest : List ℕ) → resolution_demands parts ≡ Some asked
     → joined 32 (codes "resolution" ∷ parts) ++ 10 ∷ rest ≡ demands_text asked ++ rest
 resolution_is [] asked rest h = cc h
 resolution_is (part ∷ []) asked rest h =
-    let k = resolution_taken (number_of part) asked h in
+    let k = resolution_taken _ asked h in
     ap (λ p. joined 32 (codes "resolution" ∷ p ∷ []) ++ 10 ∷ rest) (part_is part k.0 k.1 k.2)
     ∙ ap (λ l. l ++ 10 ∷ rest) (joined_spaced (codes "resolution") (k.0 ∷ [])) ∙ ended (codes "resolution") (k.0 ∷ [])
     rest
-    ∙ ap (λ (d : Demands). demands_text d ++ rest) k.3
+    ∙ ap (λ d. demands_text d ++ rest) k.3
 resolution_is (part ∷ other ∷ others) asked rest h = cc h
 
 pub numbers-effects : (ns : List ℕ) → numbers_of (numbered_effects ns) ≡ ns
 numbers-effects [] = refl
-numbers-effects (n ∷ ns) = ap (λ l. n ∷ l) (numbers-effects ns)
+numbers-effects (n ∷ ns) = cc (numbers-effects ns)
 
 pub stroke_taken : (o : Option (List ℕ)) (lists : EffectLists) → after_stroke (as_effects o) ≡ Some lists
     → (ns : List ℕ) × (o ≡ Some ns) × (record { estimate = []; nonnegligible = numbered_effects ns } ≡ lists)
@@ -227,10 +229,10 @@ effect_taken limit (Some n) (Some more) lists h =
     record { estimate = record { 0 = n } ∷ more.estimate; nonnegligible = more.nonnegligible } in
     elim (cases_Bool (leb 1 n && ltb n limit)) [
       | inl in' ↦
-          let z : Some own ≡ Some lists = sym (cond-true (leb 1 n && ltb n limit) (Some own) None in') ∙ h in
+          let z = sym (cond-true _ (Some own) None in') ∙ h in
           let e : own ≡ lists = cc z in
           (n, more, refl, refl, ltb-true _ _ (and_parts _ _ in').1, e)
-      | inr out ↦ let z : None ≡ Some lists = sym (cond-false (leb 1 n && ltb n limit) (Some own) None out) ∙ h in cc z
+      | inr out ↦ let z = sym (cond-false _ (Some own) None out) ∙ h in cc z
     ]
 
 abbrev lists_parts : EffectLists → List (List ℕ)
@@ -243,13 +245,11 @@ lists_are limit (part ∷ parts) lists top h =
     elim (cases_Bool (bytes_eq part (codes "/"))) [
       | inl is ↦
           let k = stroke_taken (numbers_of_parts 1 limit parts) lists
-          (sym (cond-true (bytes_eq part (codes "/")) _ _ is) ∙ h) in
-          ap (λ p. p ∷ parts) (same_bytes part (codes "/") is) ∙ ap (λ ps. codes "/" ∷ ps)
-          (parts_are 1 limit parts k.0 top k.1 ∙ ap (map decimal) (sym (numbers-effects k.0)))
-          ∙ ap lists_parts k.2
+          (sym (cond-true _ _ _ is) ∙ h) in
+          cc (same_bytes part _ is, parts_are 1 limit parts k.0 top k.1, numbers-effects k.0)
       | inr other ↦
           let k = effect_taken limit (number_of part) (lists_of limit parts) lists
-          (sym (cond-false (bytes_eq part (codes "/")) (after_stroke (as_effects (numbers_of_parts 1 limit parts)))
+          (sym (cond-false _ (after_stroke (as_effects (numbers_of_parts 1 limit parts)))
           _ other) ∙ h) in
           ap (λ p. p ∷ parts) (part_is part k.0 k.2 (omega (arith, k.4))) ∙ ap (λ ps. decimal k.0 ∷ ps)
           (lists_are limit parts k.1 top k.3) ∙ ap lists_parts k.5
@@ -262,12 +262,12 @@ asked_taken q (Some lists) asked h =
     elim (cases_Bool (may_be_asked q (numbers_of lists.estimate) (numbers_of lists.nonnegligible))) [
       | inl may ↦
           let z : Some (Effects lists.estimate lists.nonnegligible) ≡ Some asked =
-          sym (cond-true (may_be_asked q (numbers_of lists.estimate) (numbers_of lists.nonnegligible)) _ None may) ∙
+          sym (cond-true _ _ None may) ∙
           h in
           (lists, refl, cc z)
       | inr out ↦
-          let z : None ≡ Some asked =
-          sym (cond-false (may_be_asked q (numbers_of lists.estimate) (numbers_of lists.nonnegligible))
+          let z =
+          sym (cond-false _
           (Some (Effects lists.estimate lists.nonnegligible)) None out) ∙ h in cc z
     ]
 
@@ -275,9 +275,12 @@ effects_line : (ns ms rest : List ℕ)
     → (codes "effects" ++ (spaced ns ++ (codes " /" ++ spaced ms))) ++ 10 ∷ rest
     ≡ (codes "effects" ++ (spaced ns ++ (codes " /" ++ (spaced ms ++ codes "\n")))) ++ rest
 effects_line ns ms rest =
-    ap (λ l. codes "effects" ++ l) (append_assoc (spaced ns) (codes " /" ++ spaced ms) (10 ∷ rest)
-    ∙ sym (append_assoc (spaced ns) (codes " /" ++ (spaced ms ++ codes "\n")) rest ∙ ap
-    (λ l. spaced ns ++ (codes " /" ++ l)) (append_assoc (spaced ms) (10 ∷ []) rest)))
+    cc (
+      append_assoc (spaced ns) (codes " /" ++ spaced ms) (10 ∷ rest),
+      append_assoc (spaced ns)
+          (codes " /" ++ (spaced ms ++ codes "\n")) rest,
+      append_assoc (spaced ms) (10 ∷ []) rest,
+    )
 
 demands_are : (shape : Shape) (parts : List (List ℕ)) (asked : Demands) (rest : List ℕ) → shape.s ≤ MOST_FACTORS
     → demands_of shape parts ≡ Some asked → joined 32 parts ++ 10 ∷ rest ≡ demands_text asked ++ rest
@@ -286,10 +289,12 @@ demands_are shape (word ∷ parts) asked rest short h =
     let effects : Option Demands = asked_for shape.q (lists_of (2 ^ shape.s) parts) in
     elim (cases_Bool (bytes_eq word (codes "resolution"))) [
       | inl is ↦
-          ap (λ w. joined 32 (w ∷ parts) ++ 10 ∷ rest) (same_bytes word (codes "resolution") is)
-          ∙ resolution_is parts asked rest
-          (sym (cond-true (bytes_eq word (codes "resolution")) (resolution_demands parts)
-          (cond (bytes_eq word (codes "effects")) effects None) is) ∙ h)
+          cc (
+            same_bytes word (codes "resolution") is,
+            resolution_is parts asked rest
+                (cc (cond-true (bytes_eq word (codes "resolution")) (resolution_demands parts)
+                (cond (bytes_eq word (codes "effects")) effects None) is)),
+          )
       | inr other ↦
           let h' = sym
           (cond-false (bytes_eq word (codes "resolution")) (resolution_demands parts)
@@ -305,8 +310,8 @@ demands_are shape (word ∷ parts) asked rest short h =
                 ∙ ap (λ l. l ++ 10 ∷ rest)
                 (joined_lists (codes "effects") (numbers_of k.0.estimate) (numbers_of k.0.nonnegligible))
                 ∙ effects_line (numbers_of k.0.estimate) (numbers_of k.0.nonnegligible) rest
-                ∙ ap (λ (d : Demands). demands_text d ++ rest) k.2
-            | inr out ↦ let z : None ≡ Some asked =
+                ∙ ap (λ d. demands_text d ++ rest) k.2
+            | inr out ↦ let z =
                 sym (cond-false (bytes_eq word (codes "effects")) effects None out) ∙ h' in cc z
           ]
     ]
@@ -317,11 +322,11 @@ whole_taken s None beat h = cc h
 whole_taken s (Some pattern) beat h =
     elim (cases_Bool (eqb (length pattern) s)) [
       | inl long ↦
-          let z : Some (Some pattern) ≡ Some beat =
-          sym (cond-true (eqb (length pattern) s) (Some (Some pattern)) None long) ∙ h in
+          let z =
+          sym (cond-true _ (Some (Some pattern)) None long) ∙ h in
           (pattern, refl, cc z)
-      | inr out ↦ let z : None ≡ Some beat =
-          sym (cond-false (eqb (length pattern) s) (Some (Some pattern)) None out) ∙ h in cc z
+      | inr out ↦ let z =
+          sym (cond-false _ (Some (Some pattern)) None out) ∙ h in cc z
     ]
 
 pattern_is : (s : ℕ) (allowed : Bool) (parts : List (List ℕ)) (beat : Option (List ℕ))
@@ -332,14 +337,17 @@ pattern_is s allowed (word ∷ parts) beat h =
     elim (cases_Bool (bytes_eq word (codes "pattern") && allowed)) [
       | inl is ↦
           let k = whole_taken s (numbers_of_parts 0 (2 ^ 127) parts) beat
-          (sym (cond-true (bytes_eq word (codes "pattern") && allowed) _ None is) ∙ h) in (
+          (sym (cond-true _ _ None is) ∙ h) in (
             k.0,
-            ap (λ w. w ∷ parts) (same_bytes word (codes "pattern") (and_parts _ _ is).0) ∙ ap
-                (λ ps. codes "pattern" ∷ ps) (parts_are 0 (2 ^ 127) parts k.0 (omega arith) k.1),
+            cc (
+              same_bytes word (codes "pattern") (and_parts _ _ is).0,
+              parts_are 0 (2 ^ 127) parts k.0 (omega arith)
+                  k.1,
+            ),
             k.2,
           )
-      | inr out ↦ let z : None ≡ Some beat =
-          sym (cond-false (bytes_eq word (codes "pattern") && allowed)
+      | inr out ↦ let z =
+          sym (cond-false _
           (whole_pattern s (numbers_of_parts 0 (2 ^ 127) parts)) None out) ∙ h in cc z
     ]
 
@@ -348,19 +356,16 @@ beat_is : (s : ℕ) (allowed : Bool) (line : List ℕ) (beat : Option (List ℕ)
 beat_is s allowed line beat rest h =
     elim (cases_Bool (bytes_eq line (codes "pattern none"))) [
       | inl none ↦
-          let z : Some None ≡ Some beat =
-          sym (cond-true (bytes_eq line (codes "pattern none")) (Some None) (beat_from s allowed (split 32 line))
+          let z =
+          sym (cond-true _ (Some None) (beat_from s allowed (split 32 line))
           none) ∙ h in
           let e : None ≡ beat = cc z in
-          ap (λ l. l ++ 10 ∷ rest) (same_bytes line (codes "pattern none") none) ∙ ap
-          (λ (b : Option (List ℕ)). beat_text b ++ rest) e
+          cc (same_bytes line _ none)
       | inr other ↦
-          let k = pattern_is s allowed (split 32 line) beat
-          (sym (cond-false (bytes_eq line (codes "pattern none")) (Some None) (beat_from s allowed (split 32 line))
+          let k = pattern_is s allowed _ beat
+          (sym (cond-false _ (Some None) (beat_from s allowed (split 32 line))
           other) ∙ h) in
-          ap (λ l. l ++ 10 ∷ rest)
-          (text_of 32 line (codes "pattern" ∷ map decimal k.0) k.1 ∙ joined_spaced (codes "pattern") k.0)
-          ∙ ended (codes "pattern") k.0 rest ∙ ap (λ (b : Option (List ℕ)). beat_text b ++ rest) k.2
+          cc (text_of 32 line _ k.1, joined_spaced (codes "pattern") k.0, ended (codes "pattern") k.0 rest)
     ]
 
 -- the text of lines 2 to 4, and of those after them
@@ -412,7 +417,7 @@ module _ (head : Head) (after : List (List ℕ)) where
         b.0,
         ap (joined 10) k.2 ∙ joined_more 10 k.0 k.1 k.3 ∙ ap (λ r. k.0 ++ 10 ∷ r) b.2 ∙ ap (λ line. line ++ 10 ∷ R)
             (sym (join_split 32 k.0))
-            ∙ demands_are shape (split 32 k.0) d.0 R short d.1 ∙ ap (λ (x : Demands). demands_text x ++ R) (sym b.1),
+            ∙ demands_are shape (split 32 k.0) d.0 R short d.1 ∙ ap (λ x. demands_text x ++ R) (sym b.1),
       )
 
   pub size_taken : (lines : List (List ℕ)) (o : Option Shape) → with_shape lines o ≡ Ok (head, after)
@@ -427,19 +432,19 @@ module _ (head : Head) (after : List (List ℕ)) where
       ≡ shape_text head.question.shape
       ++ (demands_text head.question.demands ++ (beat_text head.beat ++ joined 10 after)))
   head_text_is version lines h =
-      let k = line_taken (fault kind.Size 2) (λ line rest. with_shape rest (shape_of version (split 32 line))) lines
+      let k = line_taken _ (λ line rest. with_shape rest (shape_of version (split 32 line))) lines
       (head, after) h in
-      let s = size_taken k.1 (shape_of version (split 32 k.0)) k.4 in
-      let shape : Shape = s.0 in
-      let i = shape_is version shape (split 32 k.0) s.1 in
+      let s = size_taken k.1 _ k.4 in
+      let shape = s.0 in
+      let i = shape_is version shape _ s.1 in
       let d = from_demands_text shape k.1 i.0.s s.2 in
       let numbers : List ℕ = shape.q ∷ shape.m ∷ shape.s ∷ shape.t ∷ [] in
-      let R : List ℕ = demands_text head.question.demands ++ (beat_text head.beat ++ joined 10 after) in (
-        subst (λ (x : Shape). AreLimits version x) (sym d.0) i.0,
+      let R = demands_text head.question.demands ++ (beat_text head.beat ++ joined 10 after) in (
+        rw d.0 i.0,
         ap (joined 10) k.2 ∙ joined_more 10 k.0 k.1 k.3 ∙ ap (λ r. k.0 ++ 10 ∷ r) d.1
             ∙ ap (λ line. line ++ 10 ∷ R)
             (text_of 32 k.0 (codes "size" ∷ map decimal numbers) i.1 ∙ joined_spaced (codes "size") numbers)
-            ∙ ended (codes "size") numbers R ∙ ap (λ (x : Shape). shape_text x ++ R) (sym d.0),
+            ∙ ended (codes "size") numbers R ∙ ap (λ x. shape_text x ++ R) (sym d.0),
       )
 
 pub marks_taken : (head : Head) (r : Result (List nodes.Mark) BookFault) (book : Book) → with_marks head r ≡ Ok book
@@ -453,14 +458,13 @@ pub head_taken : (version : Version) (r : Result (Head × List (List ℕ)) BookF
     × (entries version (dimensions_of book.head.question.shape) (is_some book.head.beat) 5 lines ≡ Ok book.marks)
 head_taken version (Err stop) book h = cc h
 head_taken version (Ok read) book h =
-    let head : Head = read.0 in
-    let m = marks_taken head (entries version (dimensions_of head.question.shape) (is_some head.beat) 5 read.1) book h
+    let head = read.0 in
+    let m = marks_taken head _ book h
     in
-    let is : head ≡ book.head = ap (λ (x : Book). x.head) m.2 in (
+    let is : head ≡ book.head = cc in (
       read.1,
-      ap (λ (x : Head). Ok (x, read.1)) is,
-      subst (λ (x : Book). entries version (dimensions_of x.head.question.shape) (is_some x.head.beat) 5 read.1 ≡
-          Ok x.marks) m.2 m.1,
+      ap (λ x. Ok (x, read.1)) is,
+      rw (← m.2) m.1,
     )
 
 pub version_taken : (lines : List (List ℕ)) (o : Option Version) (book : Book) → with_version lines o ≡ Ok book
@@ -472,23 +476,23 @@ title_is : (line : List ℕ) (version : Version) → version_of line ≡ Some ve
 title_is line version h =
     elim (cases_Bool (bytes_eq line (codes "factex-book 1"))) [
       | inl one ↦
-          let z : Some First ≡ Some version =
-          sym (cond-true (bytes_eq line (codes "factex-book 1")) (Some First)
+          let z =
+          sym (cond-true _ (Some First)
           (cond (bytes_eq line (codes "factex-book 2")) (Some Second) None) one) ∙ h in
           let e : First ≡ version = cc z in
-          same_bytes line (codes "factex-book 1") one ∙ ap title_of e
+          cc (same_bytes line _ one)
       | inr other ↦
           let h' = sym
-          (cond-false (bytes_eq line (codes "factex-book 1")) (Some First)
+          (cond-false _ (Some First)
           (cond (bytes_eq line (codes "factex-book 2")) (Some Second) None) other) ∙ h in
           elim (cases_Bool (bytes_eq line (codes "factex-book 2"))) [
             | inl two ↦
-                let z : Some Second ≡ Some version =
-                sym (cond-true (bytes_eq line (codes "factex-book 2")) (Some Second) None two) ∙ h' in
+                let z =
+                sym (cond-true _ (Some Second) None two) ∙ h' in
                 let e : Second ≡ version = cc z in
-                same_bytes line (codes "factex-book 2") two ∙ ap title_of e
-            | inr out ↦ let z : None ≡ Some version =
-                sym (cond-false (bytes_eq line (codes "factex-book 2")) (Some Second) None out) ∙ h' in cc z
+                cc (same_bytes line _ two)
+            | inr out ↦ let z =
+                sym (cond-false _ (Some Second) None out) ∙ h' in cc z
           ]
     ]
 
@@ -497,27 +501,20 @@ pub read_is_written : (text : List ℕ) (book : Book) → book_of text ≡ Ok bo
 unfolding book_of
 read_is_written text book h =
     elim (cases_Bool (ltb 268435456 (length text))) [
-      | inl long ↦ let z = sym (cond-true (ltb 268435456 (length text)) _ _ long) ∙ h in cc z
+      | inl long ↦ let z = sym (cond-true _ _ _ long) ∙ h in cc z
       | inr short ↦
-          let h' : from_title (split 10 text) ≡ Ok book =
-          sym (cond-false (ltb 268435456 (length text)) _ _ short) ∙ h in
           let k = line_taken (fault kind.Title 1) (λ line rest. with_version rest (version_of line)) (split 10 text)
-          book h' in
+          book (sym (cond-false (ltb 268435456 (length text)) _ _ short) ∙ h) in
           let v = version_taken k.1 (version_of k.0) book k.4 in
           let a = head_taken v.0 (head_of v.0 k.1) book v.2 in
           let b = head_text_is book.head a.0 v.0 k.1 a.1 in
           let l = b.0 in
-          let shape : Shape = book.head.question.shape in
-          let rest : joined 10 a.0 ≡ entries_text v.0 (dimensions_of shape) book.marks ++ end =
+          let shape = book.head.question.shape in
+          let rest =
           entries_are v.0 (dimensions_of shape) (is_some book.head.beat) (omega (arith, l.order)) (omega (arith, l.q))
-          (omega (arith, l.rows)) l.runs (words_fit shape l.shaped (shape.s + shape.t) (omega arith)) 5 a.0 book.marks
+          (omega arith) l.runs (words_fit shape l.shaped _ (omega arith)) 5 a.0 book.marks
           a.2 in (
             v.0,
-            sym (join_split 10 text) ∙ ap (joined 10) k.2 ∙ joined_more 10 k.0 k.1 k.3 ∙ ap
-                (λ l. l ++ 10 ∷ joined 10 k.1) (title_is k.0 v.0 v.1)
-                ∙ ap (λ l. title_of v.0 ++ 10 ∷ l) b.1
-                ∙ ap (λ l. title_of v.0
-                ++ 10 ∷ (shape_text shape ++ (demands_text book.head.question.demands ++ (beat_text book.head.beat ++ l))))
-                rest,
+            cc (join_split 10 text, joined_more 10 k.0 k.1 k.3, title_is k.0 v.0 v.1),
           )
     ]

@@ -1,5 +1,5 @@
 -- The text of a book from its pieces.
-use Rattle.std.proofs.Common.{◌≡◌, ◌≤◌, List, [], ◌∷◌, ◌++◌, ℕ, length, ap, sym, ◌∙◌, append_assoc, append-nil}
+use Rattle.std.proofs.Common.{◌≡◌, ◌≤◌, List, [], ◌∷◌, ◌++◌, ℕ, length, ◌∙◌, append_assoc, append-nil}
 use Rattle.std.specs.Prelude.{codes}
 use Rattle.std.specs.List.{slice_range}
 use Rattle.fx_vectors.specs.declared.book.Book.{Book}
@@ -21,10 +21,11 @@ pub entries-both : (d : Dimensions) (marks : List nodes.Mark) (from middle to : 
     → joined back ≡ entries_text Second d (slice_range marks middle to) → all ≡ front ++ back
     → joined all ≡ entries_text Second d (slice_range marks from to)
 entries-both d marks from middle to front back all low high f b same =
-    ap joined same ∙ joined-append front back ∙ ap (λ (l : List ℕ). l ++ joined back) f ∙ ap
-    (λ (l : List ℕ). entries_text Second d (slice_range marks from middle) ++ l) b
-    ∙ sym (entries-append Second d (slice_range marks from middle) (slice_range marks middle to)) ∙ ap
-    (entries_text Second d) (range-range marks from middle to low high)
+    cc (
+      joined-append front back,
+      entries-append Second d (slice_range marks from middle) (slice_range marks middle to),
+      range-range marks from middle to low high,
+    )
 
 -- the text of a book by its first line, the three about its question, its entries and its last line
 pub by_parts : (book : Book)
@@ -32,12 +33,11 @@ pub by_parts : (book : Book)
     ++ (head_text book.head
     ++ (entries_text Second (dimensions_of book.head.question.shape) book.marks ++ codes "END\n")) ≡ book_text book
 by_parts book =
-    let shape : List ℕ = shape_text book.head.question.shape in
-    let demands : List ℕ = demands_text book.head.question.demands in
-    let beat : List ℕ = beat_text book.head.beat in
-    let rest : List ℕ = entries_text Second (dimensions_of book.head.question.shape) book.marks ++ codes "END\n" in
-    ap (λ (l : List ℕ). codes "factex-book 2\n" ++ l)
-    (append_assoc shape (demands ++ beat) rest ∙ ap (λ (l : List ℕ). shape ++ l) (append_assoc demands beat rest))
+    let shape = shape_text book.head.question.shape in
+    let demands = demands_text book.head.question.demands in
+    let beat = beat_text book.head.beat in
+    let rest = entries_text Second (dimensions_of book.head.question.shape) book.marks ++ codes "END\n" in
+    cc (append_assoc shape (demands ++ beat) rest, append_assoc demands beat rest)
 
 -- the same with the first four lines as one text
 pub by_front : (book : Book)
@@ -56,12 +56,12 @@ pub book-joined : (book : Book) (front end : List ℕ) (entries some all : List 
     → some ≡ (front ∷ []) ++ entries → all ≡ some ++ end ∷ []
     → joined all ≡ book_text book
 book-joined book front end entries some all f e between s a =
-    let d : Dimensions = dimensions_of book.head.question.shape in
-    let end_is : joined (end ∷ []) ≡ codes "END\n" = append-nil end ∙ e in
-    ap joined (a ∙ ap (λ (l : List (List ℕ)). l ++ end ∷ []) s)
-    ∙ joined-append (front ∷ entries) (end ∷ [])
-    ∙ ap (λ (l : List ℕ). (front ++ joined entries) ++ l) end_is
-    ∙ append_assoc front (joined entries) (codes "END\n")
-    ∙ ap (λ (l : List ℕ). front ++ (l ++ codes "END\n")) (between ∙ ap (entries_text Second d) (range-all book.marks))
-    ∙ ap (λ (l : List ℕ). l ++ (entries_text Second d book.marks ++ codes "END\n")) f
-    ∙ by_front book
+    let d = dimensions_of book.head.question.shape in
+    let end_is = append-nil end ∙ e in
+    cc (
+      joined-append (front ∷ entries) (end ∷ []),
+      append_assoc front (joined entries) (codes "END\n"),
+      range-all
+          book.marks,
+      by_front book,
+    )

@@ -1,6 +1,6 @@
 -- The lines of a book, one at a time.
 use Rattle.std.proofs.Common.{◌≡◌, ℕ, ◌+◌, ◌<◌, Bool, true, false, cond, eqb, List, [], ◌∷◌, ◌++◌, length, drop, Result}
-use Rattle.std.proofs.Common.{Ok, Err, refl, sym, ap, ◌∙◌, arith, append_assoc, None}
+use Rattle.std.proofs.Common.{Ok, Err, refl, ◌∙◌, arith, append_assoc, None}
 use Rattle.std.proofs.lemmas.Bool.{cond-true, cond-false, ne_eqb}
 use Rattle.fx_designs.specs.Problems.{Dimensions}
 use Rattle.fx_designs.specs.Nodes as nodes
@@ -32,7 +32,7 @@ with_parts version d b x y (part ∷ parts) h = refl
 pub something : (stop b : ℕ) (bytes : List ℕ) → is_nothing (split stop (b ∷ bytes)) ≡ false
 something stop b bytes =
     elim (eqb b stop) as (λ c. is_nothing (cond c ([] ∷ split stop bytes) (put_first b (split stop bytes))) ≡ false) [
-      | true ↦ more (split stop bytes) (some_parts stop bytes)
+      | true ↦ more _ (some_parts stop bytes)
       | false ↦ own b (split stop bytes)
     ]
   where
@@ -42,7 +42,7 @@ something stop b bytes =
 
     own : (b : ℕ) (parts : List (List ℕ)) → is_nothing (put_first b parts) ≡ false
     own b [] = refl
-    own b (part ∷ []) = ne_eqb (length (b ∷ part)) 0 (λ e. omega (arith, e))
+    own b (part ∷ []) = ne_eqb _ 0 (λ e. omega arith)
     own b (part ∷ next ∷ parts) = refl
 
 pub something_left : (stop : ℕ) (bytes : List ℕ) → 0 < length bytes → is_nothing (split stop bytes) ≡ false
@@ -68,7 +68,7 @@ placed_parts d x (part ∷ parts) h = refl
 
 -- there are parts before the end of a line
 pub some_after : (line : List ℕ) (end : ℕ) → end < length line → parts_after end line ≡ split 32 (drop (end + 1) line)
-some_after line end more = cond-false (eqb end (length line)) _ _ (ne_eqb end (length line) (λ e. omega arith))
+some_after line end more = cond-false _ _ _ (ne_eqb end (length line) (λ e. omega arith))
 
 module _ (version : Version) (d : Dimensions) (b : Bool) (n : ℕ) (line : List ℕ) where
   step : (rest : List (List ℕ)) → 0 < length rest
@@ -81,16 +81,16 @@ module _ (version : Version) (d : Dimensions) (b : Bool) (n : ℕ) (line : List 
   pub end_followed : (rest : List (List ℕ)) → 0 < length rest → bytes_eq line (codes "END") ≡ true
       → is_nothing rest ≡ false → entries version d b n (line ∷ rest) ≡ Err (fault Trailing (n + 1))
   end_followed rest h e more =
-      step rest h ∙ cond-true (bytes_eq line (codes "END")) _ _ e ∙ cond-false (is_nothing rest) _ _ more
+      step rest h ∙ cond-true _ _ _ e ∙ cond-false _ _ _ more
 
   pub at_entry : (rest : List (List ℕ)) → 0 < length rest → bytes_eq line (codes "END") ≡ false
       → entries version d b n (line ∷ rest)
       ≡ after_entry n (entry_of version d b (split 32 line)) (entries version d b (n + 1) rest)
-  at_entry rest h e = step rest h ∙ cond-false (bytes_eq line (codes "END")) _ _ e
+  at_entry rest h e = step rest h ∙ cond-false _ _ _ e
 
 pub onto_after : (marks : List nodes.Mark) (n : ℕ) (mark : Mark) (read : Result (List nodes.Mark) BookFault)
     → onto marks (after_entry n (Ok mark) read) ≡ onto (marks ++ meaning_of mark ∷ []) read
-onto_after marks n mark (Ok more) = ap Ok (sym (append_assoc marks (meaning_of mark ∷ []) more))
+onto_after marks n mark (Ok more) = cc (append_assoc marks (meaning_of mark ∷ []) more)
 onto_after marks n mark (Err stop) = refl
 
 -- entries after others
@@ -98,8 +98,11 @@ pub entries-append : (version : Version) (d : Dimensions) (marks more : List nod
     → entries_text version d (marks ++ more) ≡ entries_text version d marks ++ entries_text version d more
 entries-append version d [] more = refl
 entries-append version d (mark ∷ marks) more =
-    ap (λ l. entry_text version d mark ++ l) (entries-append version d marks more) ∙ sym
-    (append_assoc (entry_text version d mark) (entries_text version d marks) (entries_text version d more))
+    cc (
+      entries-append version d marks more,
+      append_assoc (entry_text version d mark) (entries_text version d marks)
+          (entries_text version d more),
+    )
 
 pub no_shape : (version : Version) (x y z v w : List ℕ) (parts : List (List ℕ)) → 0 < length parts
     → shape_of version (x ∷ y ∷ z ∷ v ∷ w ∷ parts) ≡ None
@@ -116,17 +119,24 @@ line_more none make line (next ∷ lines) h = refl
 pub spaced-append : (ns more : List ℕ) → spaced (ns ++ more) ≡ spaced ns ++ spaced more
 spaced-append [] more = refl
 spaced-append (n ∷ ns) more =
-    ap (λ l. codes " " ++ (decimal n ++ l)) (spaced-append ns more) ∙ ap (λ l. codes " " ++ l)
-    (sym (append_assoc (decimal n) (spaced ns) (spaced more))) ∙ sym
-    (append_assoc (codes " ") (decimal n ++ spaced ns) (spaced more))
+    cc (
+      spaced-append ns more,
+      append_assoc (decimal n) (spaced ns) (spaced more),
+      append_assoc (codes " ")
+          (decimal n ++ spaced ns) (spaced more),
+    )
 
 -- five pieces after what there was, of which the second to the fourth came together
 pub joined : (old title shape demands beat entries end : List ℕ)
     → (((old ++ title) ++ (shape ++ (demands ++ beat))) ++ entries) ++ end
     ≡ old ++ (title ++ (shape ++ (demands ++ (beat ++ (entries ++ end)))))
 joined old title shape demands beat entries end =
-    append_assoc ((old ++ title) ++ (shape ++ (demands ++ beat))) entries end
-    ∙ append_assoc (old ++ title) (shape ++ (demands ++ beat)) (entries ++ end)
-    ∙ append_assoc old title ((shape ++ (demands ++ beat)) ++ (entries ++ end))
-    ∙ ap (λ (l : List ℕ). old ++ (title ++ l)) (append_assoc shape (demands ++ beat) (entries ++ end))
-    ∙ ap (λ (l : List ℕ). old ++ (title ++ (shape ++ l))) (append_assoc demands beat (entries ++ end))
+    cc (
+      append_assoc ((old ++ title) ++ (shape ++ (demands ++ beat))) entries end,
+      append_assoc (old ++ title)
+          (shape ++ (demands ++ beat)) (entries ++ end),
+      append_assoc old title
+          ((shape ++ (demands ++ beat)) ++ (entries ++ end)),
+      append_assoc shape (demands ++ beat) (entries ++ end),
+      append_assoc demands beat (entries ++ end),
+    )

@@ -12,8 +12,6 @@ use Rattle.fx_vectors.specs.declared.question.Demands.{Demands}
 use Rattle.fx_vectors.specs.declared.question.Demands.TheVariants.{Resolution, Effects}
 use Rattle.fx_vectors.specs.declared.book.Book.{Book}
 use Rattle.fx_vectors.specs.Question.{problem_of, requirement_of}
-use Rattle.fx_vectors.specs.Effects.{numbers_of}
-use Rattle.fx_book.specs.Demands.{numbered_effects}
 use Rattle.fx_book.specs.QuestionBooks.{beat_of, book_for, demands_for}
 use Rattle.fx_book.proofs.Listed.{effects-numbers}
 
@@ -21,8 +19,7 @@ use Rattle.fx_book.proofs.Listed.{effects-numbers}
 demands_back : (demands : Demands) → demands_for (requirement_of demands) ≡ demands
 demands_back (Resolution r) = refl
 demands_back (Effects estimate others) =
-    ap (λ l. Effects l (numbered_effects (numbers_of others))) (effects-numbers estimate)
-    ∙ ap (Effects estimate) (effects-numbers others)
+    cc (effects-numbers estimate, effects-numbers others)
 
 -- a book by its parts
 abbrev book_with : Shape → Demands → Option (List ℕ) → List Mark → Book
@@ -38,9 +35,7 @@ module _ (question : Question) (entries : List Mark) (own : entries ≡ marks (p
   by_beat : (beat : Option (List ℕ)) → beat_of p ≡ beat
       → book_for p ≡ book_with question.shape question.demands beat entries
   by_beat beat is =
-      ap (λ o. book_with question.shape (demands_for p.requirement) o (marks p)) is
-      ∙ (ap (λ demands. book_with question.shape demands beat (marks p)) (demands_back question.demands)
-      ∙ ap (λ l. book_with question.shape question.demands beat l) (sym own))
+      cc (demands_back question.demands)
 
   -- without an answer there is no pattern to beat
   pub book_of_none : answer p ≡ None → book_for p ≡ book_with question.shape question.demands None entries

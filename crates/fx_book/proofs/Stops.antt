@@ -1,13 +1,15 @@
 -- Parts of a line that are cut where they are seen to end, and the entries that they are.
-use Rattle.std.proofs.Common.{◌≡◌, ℕ, zero, suc, ◌+◌, ◌-◌, ◌*◌, ◌<◌, ◌≤◌, true, false, eqb, List, [], ◌∷◌, ◌++◌, length, take}
-use Rattle.std.proofs.Common.{drop, get_or, Some, refl, sym, ap, ap₂, ◌∙◌, arith, inl, inr, append-nil, drop-cons, add-one}
-use Rattle.std.proofs.Common.{drop_of_length-le, le-leb, min, ne_eqb, not, subst}
+use Rattle.std.proofs.Common.{◌≡◌, ℕ, zero, suc, ◌+◌, ◌-◌, ◌*◌, ◌<◌, ◌≤◌, true, false, eqb, List, [], ◌∷◌, ◌++◌, length}
+use Rattle.std.proofs.Common.{take}
+use Rattle.std.proofs.Common.{drop, get_or, Some, refl, sym, ap, ap₂, ◌∙◌, arith, inl, inr, append-nil, drop-cons}
+use Rattle.std.proofs.Common.{add-one}
+use Rattle.std.proofs.Common.{drop_of_length-le, le-leb, min, ne_eqb, not}
 use Rattle.std.specs.Char.{digit_value}
 use Rattle.std.specs.Str.Parse.{digits_value}
 use Rattle.std.proofs.lemmas.Bool.{and_from, cases_lt, cond-false, cond-true, not_from_false, or_left, or_right}
 use Rattle.std.proofs.lemmas.Int.Digits.{digits_value_more}
 use Rattle.fx_book.specs.Parts.{is_digit, is_number, number_of, parts_after, split}
-use Rattle.fx_book.specs.Words.{both, entries_of_parts, entry_from, with_entry}
+use Rattle.fx_book.specs.Words.{entries_of_parts, entry_from, with_entry}
 use Rattle.fx_book.proofs.Back.{Without, split_last, split_line}
 use Rattle.fx_book.proofs.Listed.{at_line_end}
 use Rattle.fx_book.proofs.Numbers.{digit_is}
@@ -34,11 +36,9 @@ part_is line part at end is own within stop =
           ∙ split_line 32 part (drop (suc end) line) own
           ∙ ap (λ n. part ∷ split 32 (drop n line)) (sym (add-one end))
           ∙ ap (λ ps. part ∷ ps)
-          (sym (cond-false (eqb end (length line)) _ _ (ne_eqb end (length line) (λ e. omega arith))))
+          (sym (cond-false _ _ _ (ne_eqb end (length line) (λ e. omega arith))))
       | inr past ↦
-          ap (split 32) (is ∙ ap (λ l. part ++ l) (drop_of_length-le line past) ∙ append-nil part)
-          ∙ split_last 32 part own
-          ∙ ap (λ ps. part ∷ ps) (sym (at_line_end line end within past))
+          cc (drop_of_length-le line past, append-nil part, split_last 32 part own, at_line_end line end within past)
     ]
 
 -- an entry between two stops
@@ -46,13 +46,13 @@ sides : (place code : List ℕ) (x y : ℕ) → Without 58 place → Without 58 
     → number_of code ≡ Some y
     → entry_from (split 58 (place ++ 58 ∷ code)) ≡ Some (x, y)
 sides place code x y own other px py =
-    ap entry_from (split_line 58 place code own ∙ ap (λ ps. place ∷ ps) (split_last 58 code other)) ∙ ap₂ both px py
+    cc (split_line 58 place code own, split_last 58 code other)
 
 no_colon : (n : ℕ) → n ≤ 9 → eqb (48 + n) 58 ≡ false
-no_colon n few = ne_eqb (48 + n) 58 (λ e. omega arith)
+no_colon n few = ne_eqb _ 58 (λ e. omega arith)
 
 no_blank : (n : ℕ) → n ≤ 9 → eqb (48 + n) 32 ≡ false
-no_blank n few = ne_eqb (48 + n) 32 (λ e. omega arith)
+no_blank n few = ne_eqb _ 32 (λ e. omega arith)
 
 digit : (n : ℕ) → n ≤ 9 → is_digit (48 + n) ≡ true
 digit n few = and_from _ _ (le-leb 48 (48 + n) (omega arith)) (le-leb (48 + n) 57 (omega arith))
@@ -63,28 +63,26 @@ value n few = digit_is (48 + n) (omega arith) (omega arith) ∙ (let e : 48 + n 
 numbered : (digits : List ℕ) (n : ℕ) → is_number digits ≡ true → digits_value 10 digits ≡ n → n < 100
     → number_of digits ≡ Some n
 numbered digits n own is few =
-    cond-true (is_number digits) _ _ own
+    cond-true _ _ _ own
     ∙ ap (λ v. Some (min v 340282366920938463463374607431768211455)) is
     ∙ ap Some (let e : min n 340282366920938463463374607431768211455 ≡ n = omega arith in e)
 
 first_value : (b n : ℕ) (bs : List ℕ) → digit_value b ≡ n → digits_value 10 (take 1 (b ∷ bs)) ≡ n
 first_value b n bs is =
-    digits_value_more 10 (b ∷ bs) 0 (omega arith) ∙ (let e : 0 * 10 + digit_value b ≡ n = omega (arith, is) in e)
+    digits_value_more 10 (b ∷ bs) 0 (omega arith) ∙ (let e : 0 * 10 + digit_value b ≡ n = omega arith in e)
 
 one_digit : (n : ℕ) → n ≤ 9 → number_of ((48 + n) ∷ []) ≡ Some n
 one_digit n few =
-    let digits : List ℕ = (48 + n) ∷ [] in
-    numbered digits n
+    numbered ((48 + n) ∷ []) n
     (and_from _ _ (and_from _ _ (digit n few) refl) (and_from _ _ refl (or_right (not (eqb (48 + n) 48)) true refl)))
     (first_value (48 + n) n [] (value n few)) (omega arith)
 
 two_digits : (m n : ℕ) → 0 < m → m ≤ 9 → n ≤ 9 → number_of ((48 + m) ∷ (48 + n) ∷ []) ≡ Some (m * 10 + n)
 two_digits m n some few low =
     let digits : List ℕ = (48 + m) ∷ (48 + n) ∷ [] in
-    let leads : eqb (48 + m) 48 ≡ false = ne_eqb (48 + m) 48 (λ e. omega arith) in
-    numbered digits (m * 10 + n)
+    numbered digits _
     (and_from _ _ (and_from _ _ (digit m few) (and_from _ _ (digit n low) refl))
-    (and_from _ _ refl (or_left (not (eqb (48 + m) 48)) false (not_from_false (eqb (48 + m) 48) leads))))
+    (and_from _ _ refl (or_left _ false (not_from_false _ (ne_eqb (48 + m) 48 (λ e. omega arith))))))
     (digits_value_more 10 digits 1 (omega arith)
     ∙ ap₂ (λ (x y : ℕ). x * 10 + y) (first_value (48 + m) m ((48 + n) ∷ []) (value m few)) (value n low))
     (omega arith)
@@ -93,7 +91,7 @@ two_digits m n some few low =
 first_is : (line : List ℕ) (at next b : ℕ) → next ≡ at + 1 → at < length line → get_or line at 0 ≡ b
     → drop at line ≡ b ∷ drop next line
 first_is line at next b then more is =
-    drop-cons line at 0 more ∙ ap₂ (λ (x : ℕ) (n : ℕ). x ∷ drop n line) is (sym (then ∙ add-one at))
+    cc (drop-cons line at 0 more, add-one at)
 
 -- an entry that begins after `end`, and ends where it is seen to
 entry_after : (line place code : List ℕ) (end next x y : ℕ) → end < length line
@@ -103,8 +101,8 @@ entry_after : (line place code : List ℕ) (end next x y : ℕ) → end < length
     → entries_of_parts (parts_after end line) ≡ with_entry (Some (x, y)) (entries_of_parts (parts_after next line))
 entry_after line place code end next x y more is own within stop entry =
     ap entries_of_parts
-    (cond-false (eqb end (length line)) _ _ (ne_eqb end (length line) (λ e. omega arith))
-    ∙ part_is line (place ++ 58 ∷ code) (end + 1) next is own within stop)
+    (cond-false _ _ _ (ne_eqb end (length line) (λ e. omega arith))
+    ∙ part_is line _ _ next is own within stop)
     ∙ ap (λ o. with_entry o (entries_of_parts (parts_after next line))) entry
 
 -- a digit, a colon and a digit
@@ -118,14 +116,16 @@ short_entry line end x y more first colon last stop =
     let place : List ℕ = (48 + x) ∷ [] in
     let code : List ℕ = (48 + y) ∷ [] in
     let is : drop (end + 1) line ≡ (place ++ 58 ∷ code) ++ drop (end + 1 + 3) line =
-    first_is line (end + 1) (end + 1 + 1) (48 + x) refl first.0 first.1
-    ∙ ap (λ l. (48 + x) ∷ l)
-    (first_is line (end + 1 + 1) (end + 1 + 2) 58 (omega arith) (omega (arith, last.0)) colon
-    ∙ ap (λ l. 58 ∷ l) (first_is line (end + 1 + 2) (end + 1 + 3) (48 + y) (omega arith) last.0 last.1)) in
+    cc (
+      first_is line _ (end + 1 + 1) _ refl first.0 first.1,
+      first_is line (end + 1 + 1) (end + 1 + 2) 58 (omega arith)
+          (omega arith) colon,
+      first_is line (end + 1 + 2) (end + 1 + 3) _ (omega arith) last.0 last.1,
+    ) in
     let there : end + 1 + 2 + 1 ≡ end + 1 + 3 = omega arith in
-    entry_after line place code end (end + 1 + 3) x y more is
-    (no_blank x first.2, (refl, (no_blank y last.2, tt))) (omega (arith, last.0))
-    (subst (λ n. n < length line → get_or line n 0 ≡ 32) there stop)
+    entry_after line place code end _ x y more is
+    (no_blank x first.2, (refl, (no_blank y last.2, tt))) (omega arith)
+    (rw there at stop)
     (sides place code x y (no_colon x first.2, tt) (no_colon y last.2, tt) (one_digit x first.2)
     (one_digit y last.2))
 
@@ -142,15 +142,17 @@ longer_entry line end x y z more some first second colon last stop =
     let place : List ℕ = (48 + x) ∷ (48 + y) ∷ [] in
     let code : List ℕ = (48 + z) ∷ [] in
     let is : drop (end + 1) line ≡ (place ++ 58 ∷ code) ++ drop (end + 1 + 4) line =
-    first_is line (end + 1) (end + 1 + 1) (48 + x) refl first.0 first.1
-    ∙ ap (λ l. (48 + x) ∷ l)
-    (first_is line (end + 1 + 1) (end + 1 + 2) (48 + y) (omega arith) second.0 second.1
-    ∙ ap (λ l. (48 + y) ∷ l)
-    (first_is line (end + 1 + 2) (end + 1 + 3) 58 (omega arith) (omega (arith, last.0)) colon
-    ∙ ap (λ l. 58 ∷ l) (first_is line (end + 1 + 3) (end + 1 + 4) (48 + z) (omega arith) last.0 last.1))) in
+    cc (
+      first_is line _ (end + 1 + 1) _ refl first.0 first.1,
+      first_is line (end + 1 + 1) (end + 1 + 2) _ (omega arith)
+          second.0 second.1,
+      first_is line (end + 1 + 2) (end + 1 + 3) 58 (omega arith) (omega arith) colon,
+      first_is line
+          (end + 1 + 3) (end + 1 + 4) _ (omega arith) last.0 last.1,
+    ) in
     let there : end + 1 + 3 + 1 ≡ end + 1 + 4 = omega arith in
-    entry_after line place code end (end + 1 + 4) (x * 10 + y) z more is
-    (no_blank x first.2, (no_blank y second.2, (refl, (no_blank z last.2, tt)))) (omega (arith, last.0))
-    (subst (λ n. n < length line → get_or line n 0 ≡ 32) there stop)
-    (sides place code (x * 10 + y) z (no_colon x first.2, (no_colon y second.2, tt)) (no_colon z last.2, tt)
+    entry_after line place code end _ _ z more is
+    (no_blank x first.2, (no_blank y second.2, (refl, (no_blank z last.2, tt)))) (omega arith)
+    (rw there at stop)
+    (sides place code _ z (no_colon x first.2, (no_colon y second.2, tt)) (no_colon z last.2, tt)
     (two_digits x y some first.2 second.2) (one_digit z last.2))

@@ -1,6 +1,7 @@
 -- Bytes that are written to a sink one part after another.
-use Rattle.std.proofs.Common.{ℕ, ◌≡◌, ◌+◌, ◌≤◌, ◌++◌, [], List, take, drop, length, Option, Some, Result, Ok, Err, refl, sym, ap}
-use Rattle.std.proofs.Common.{subst, ◌∙◌, append_assoc}
+use Rattle.std.proofs.Common.{ℕ, ◌≡◌, ◌+◌, ◌≤◌, ◌++◌, [], List, take, drop, length, Option, Result, Ok, Err, refl}
+use Rattle.std.proofs.Common.{sym}
+use Rattle.std.proofs.Common.{subst, append_assoc}
 use Rattle.std.specs.Prelude.{IsErrAnd}
 use Rattle.std.proofs.lemmas.List.{append-nil, take-append-drop}
 use Rattle.std.proofs.lemmas.Result.{on_ok_weaker}
@@ -15,13 +16,13 @@ use Rattle.fx_book.specs.Streaming.{HasWriteCause, WritesTo}
 appends_none : (old : Option (List ℕ)) (bytes : List ℕ) → AppendsPart old old bytes
 appends_none old bytes = record {
   part = 0;
-  appended = record { exposed = λ text e. e ∙ ap Some (sym (append-nil text)) };
+  appended = record { exposed = λ text e. cc (append-nil text) };
 }
 
 appends_then : {old mid new : Option (List ℕ)} (first second : List ℕ) → Appends old mid first → Appends mid new second
     → Appends old new (first ++ second)
 appends_then first second a b = record {
-  exposed = λ text e. b.exposed (text ++ first) (a.exposed text e) ∙ ap Some (append_assoc text first second);
+  exposed = λ text e. cc (b.exposed (text ++ first) (a.exposed text e), append_assoc text first second);
 }
 
 part_first : {old new : Option (List ℕ)} (first second : List ℕ) → AppendsPart old new first
@@ -29,9 +30,12 @@ part_first : {old new : Option (List ℕ)} (first second : List ℕ) → Appends
 part_first {old} {new} first second a =
     let front = take a.part first in
     let same : take (length front) (first ++ second) ≡ front =
-    ap (λ (l : List ℕ). take (length front) (l ++ second)) (sym (take-append-drop a.part first))
-    ∙ ap (take (length front)) (append_assoc front (drop a.part first) second)
-    ∙ take-append_seam front (drop a.part first ++ second) in
+    cc (
+      take-append-drop a.part first,
+      append_assoc front (drop a.part first) second,
+      take-append_seam front
+          (drop a.part first ++ second),
+    ) in
     record { part = length front; appended = subst (Appends old new) (sym same) a.appended }
 
 part_then : {old mid new : Option (List ℕ)} (first second : List ℕ) → Appends old mid first
@@ -41,21 +45,21 @@ part_then {old} {mid} {new} first second a b = record {
   part = length first + b.part;
   appended =
       subst (Appends old new) (sym (take-append-add first second b.part))
-      (appends_then first (take b.part second) a b.appended);
+      (appends_then first _ a b.appended);
 }
 
 -- a result that is an error, and why
 error_is : {T : Type 0} (ended : Result T WriteStop) (why : WriteStop) → IsErrAnd ended (λ e. e ≡ why)
     → Err why ≡ ended
 error_is (Ok x) why h = absurd h
-error_is (Err e) why h = ap Err (sym h)
+error_is (Err e) why h = cc
 
 module _ {K : Type 0} (members : sink.Ghosts K) where
   -- no bytes were written yet
   pub none_written : {T : Type 0} (x : T) (it : K) → WritesTo members [] it it (Ok x)
   none_written x it = record {
-    done = record { exposed = λ text e. e ∙ ap Some (sym (append-nil text)) };
-    part = appends_none (members.written it) [];
+    done = record { exposed = λ text e. cc (append-nil text) };
+    part = appends_none _ [];
     cause = refl;
     room = refl;
   }
@@ -66,7 +70,7 @@ module _ {K : Type 0} (members : sink.Ghosts K) where
         → WritesTo members bytes it it ended
     nothing_written it ended h = subst (WritesTo members bytes it it) (error_is ended NoMemory h) (record {
       done = tt;
-      part = appends_none (members.written it) bytes;
+      part = appends_none _ bytes;
       cause = refl;
       room = refl;
     })
@@ -92,12 +96,13 @@ module _ {K : Type 0} (members : sink.Ghosts K) where
           → Rose (members.faults old) (members.faults new)
           → members.faults old ≤ members.faults new
           → WritesTo members bytes old new ended
-      cut_written ended h part rose later = subst (WritesTo members bytes old new) (error_is ended WriteFault h) (record {
-        done = tt;
-        part = part;
-        cause = (rose, later);
-        room = room;
-      })
+      cut_written ended h part rose later =
+          subst (WritesTo members bytes old new) (error_is ended WriteFault h) (record {
+            done = tt;
+            part = part;
+            cause = (rose, later);
+            room = room;
+          })
 
   -- a stop is the same of another call
   stop_cause : (T U : Type 0) (before now : ℕ) (why : WriteStop) → HasWriteCause {T = T} before now (Err why)
@@ -123,8 +128,8 @@ module _ {K : Type 0} (members : sink.Ghosts K) where
         → WritesTo members second mid new ended
         → WritesTo members (first ++ second) old new ended
     written_then {mid} {x} {ended} one two = record {
-      done = on_ok_weaker ended (λ done. appends_then first second one.done done) two.done;
+      done = on_ok_weaker ended (appends_then first second one.done) two.done;
       part = part_then first second one.done two.part;
-      cause = subst (λ n. HasWriteCause n (members.faults new) ended) one.cause two.cause;
-      room = two.room ∙ one.room;
+      cause = rw one.cause at two.cause;
+      room = cc;
     }

@@ -49,36 +49,43 @@ join_split stop [] = refl
 join_split stop (b ∷ bytes) =
     elim (cases_Bool (eqb b stop)) [
       | inl is ↦
-          ap (joined stop) (cond-true (eqb b stop) ([] ∷ split stop bytes) (put_first b (split stop bytes)) is)
-          ∙ joined_more stop [] (split stop bytes) (some_parts stop bytes) ∙ ap (λ l. stop ∷ l) (join_split stop bytes)
-          ∙ ap (λ (x : ℕ). x ∷ bytes) (sym (eqb-true b stop is))
+          cc (
+            cond-true _ ([] ∷ split stop bytes) (put_first b (split stop bytes)) is,
+            joined_more stop [] _
+                (some_parts stop bytes),
+            join_split stop bytes,
+            eqb-true b stop is,
+          )
       | inr other ↦
-          ap (joined stop) (cond-false (eqb b stop) ([] ∷ split stop bytes) (put_first b (split stop bytes)) other)
-          ∙ joined_put stop b (split stop bytes) ∙ ap (λ l. b ∷ l) (join_split stop bytes)
+          cc (
+            cond-false _ ([] ∷ split stop bytes) (put_first b (split stop bytes)) other,
+            joined_put stop b
+                (split stop bytes),
+            join_split stop bytes,
+          )
     ]
 
 -- a text of these parts
 pub text_of : (stop : ℕ) (text : List ℕ) (parts : List (List ℕ)) → split stop text ≡ parts → text ≡ joined stop parts
-text_of stop text parts e = sym (join_split stop text) ∙ ap (joined stop) e
+text_of stop text parts e = cc (join_split stop text)
 
 pub joined_spaced : (word : List ℕ) (ns : List ℕ) → joined 32 (word ∷ map decimal ns) ≡ word ++ spaced ns
 joined_spaced word [] = sym (append-nil word)
-joined_spaced word (n ∷ ns) = ap (λ l. word ++ 32 ∷ l) (joined_spaced (decimal n) ns)
+joined_spaced word (n ∷ ns) = cc (joined_spaced (decimal n) ns)
 
 pub joined_lists : (word : List ℕ) (ns ms : List ℕ)
     → joined 32 (word ∷ (map decimal ns ++ codes "/" ∷ map decimal ms))
     ≡ word ++ (spaced ns ++ (codes " /" ++ spaced ms))
-joined_lists word [] ms = ap (λ l. word ++ 32 ∷ l) (joined_spaced (codes "/") ms)
+joined_lists word [] ms = cc (joined_spaced (codes "/") ms)
 joined_lists word (n ∷ ns) ms =
-    ap (λ l. word ++ 32 ∷ l)
-    (joined_lists (decimal n) ns ms ∙ sym (append_assoc (decimal n) (spaced ns) (codes " /" ++ spaced ms)))
+    cc (joined_lists (decimal n) ns ms, append_assoc (decimal n) (spaced ns) (codes " /" ++ spaced ms))
 
 pub same_bytes : (xs ys : List ℕ) → bytes_eq xs ys ≡ true → xs ≡ ys
 same_bytes xs ys h = (bytes_eq-Decides xs ys).0 h
 
 pub joined_blanks : (x : List ℕ) (parts : List (List ℕ)) → joined 32 (x ∷ parts) ≡ x ++ after_blanks parts
 joined_blanks x [] = sym (append-nil x)
-joined_blanks x (part ∷ parts) = ap (λ l. x ++ 32 ∷ l) (joined_blanks part parts)
+joined_blanks x (part ∷ parts) = cc (joined_blanks part parts)
 
 -- the parts of an entry of a word
 entry_is_parts : (parts : List (List ℕ)) (e : ℕ × ℕ) → entry_from parts ≡ Some e → e.0 < 2 ^ 127 → e.1 < 2 ^ 127
@@ -86,14 +93,14 @@ entry_is_parts : (parts : List (List ℕ)) (e : ℕ × ℕ) → entry_from parts
 entry_is_parts [] e h p c = cc h
 entry_is_parts (place ∷ []) e h p c = cc h
 entry_is_parts (place ∷ code ∷ []) e h p c =
-    let k = taken (number_of place) (number_of code) h in
-    ap (λ x. x ∷ code ∷ []) (part_is place e.0 k.0 p) ∙ ap (λ x. decimal e.0 ∷ x ∷ []) (part_is code e.1 k.1 c)
+    let k = taken _ _ h in
+    cc (part_is place e.0 k.0 p, part_is code e.1 k.1 c)
   where
     taken : (o w : Option ℕ) → both o w ≡ Some e → (o ≡ Some e.0) × (w ≡ Some e.1)
     taken None w h = cc h
     taken (Some i) None h = cc h
     taken (Some i) (Some c) h = let z : (i, c) ≡ e = cc h in
-        (ap (λ (x : ℕ × ℕ). Some x.0) z, ap (λ (x : ℕ × ℕ). Some x.1) z)
+        (cc, cc)
 entry_is_parts (place ∷ code ∷ other ∷ others) e h p c = cc h
 
 entry_taken : (o : Option (ℕ × ℕ)) (rest : Option (List (ℕ × ℕ))) (entries : List (ℕ × ℕ))
@@ -109,10 +116,10 @@ number_taken within None word h = cc h
 number_taken within (Some n) word h =
     elim (cases_Bool (within n)) [
       | inl in' ↦
-          let z : Ok n ≡ Ok word = sym (cond-true (within n) (Ok n) (Err Range) in') ∙ h in
+          let z = sym (cond-true _ (Ok n) (Err Range) in') ∙ h in
           let e : n ≡ word = cc z in
-          (ap Some e, subst (λ x. within x ≡ true) e in')
-      | inr out ↦ let z : Err Range ≡ Ok word = sym (cond-false (within n) (Ok n) (Err Range) out) ∙ h in cc z
+          (cc, rw e at in')
+      | inr out ↦ let z = sym (cond-false _ (Ok n) (Err Range) out) ∙ h in cc z
     ]
 
 after_mark : (part : List ℕ) → bytes_eq (take 1 part) (codes "#") ≡ true → part ≡ 35 ∷ drop 1 part
@@ -124,12 +131,11 @@ module _ (d : Dimensions) (order : 0 < d.q) (small : d.q < 2 ^ 127) (rows : d.s 
   entry_parts_are : (last room : ℕ) (parts : List (List ℕ)) (entries : List (ℕ × ℕ))
       → entries_of_parts parts ≡ Some entries → are_entries_after d last room entries ≡ true
       → parts ≡ map entry_part entries
-  entry_parts_are last room [] entries h fit = let e : [] ≡ entries = cc h in ap (map entry_part) e
+  entry_parts_are last room [] entries h fit = let e : [] ≡ entries = cc h in cc
   entry_parts_are last room (part ∷ parts) entries h fit =
-      let k = entry_taken (entry_from (split 58 part)) (entries_of_parts parts) entries h in
-      own room k.0 k.1 k.2 (subst (λ es. are_entries_after d last room es ≡ true) (sym k.4) fit)
-      (λ after left others. entry_parts_are after left parts k.1 k.3 others)
-      ∙ ap (map entry_part) k.4
+      let k = entry_taken _ _ entries h in
+      cc (own room k.0 k.1 k.2 (rw k.4 fit)
+      (λ after left others. entry_parts_are after left parts k.1 k.3 others))
     where
       own : (room : ℕ) (e : ℕ × ℕ) (more : List (ℕ × ℕ)) → entry_from (split 58 part) ≡ Some e
           → are_entries_after d last room (e ∷ more) ≡ true
@@ -139,10 +145,10 @@ module _ (d : Dimensions) (order : 0 < d.q) (small : d.q < 2 ^ 127) (rows : d.s 
       own (suc k) e more is h rest =
           let p = and_parts _ _ h in
           let b = entry_bounds d last e p.0 in
-          let here : part ≡ entry_part e =
-          text_of 58 part (decimal e.0 ∷ decimal e.1 ∷ [])
-          (entry_is_parts (split 58 part) e is (omega (arith, b.1)) (omega (arith, b.3))) in
-          ap (λ x. x ∷ parts) here ∙ ap (λ ps. entry_part e ∷ ps) (rest e.0 k p.1)
+          let here =
+          text_of 58 part _
+          (entry_is_parts _ e is (omega arith) (omega arith)) in
+          cc (rest e.0 k p.1)
 
   -- what is read as a word
   pub record IsWritten (version : Version) (parts : List (List ℕ)) (word : ℕ) : Type 0 where
@@ -155,11 +161,11 @@ module _ (d : Dimensions) (order : 0 < d.q) (small : d.q < 2 ^ 127) (rows : d.s 
   by_entries_written parts None word some is h = cc h
   by_entries_written parts (Some entries) word some is h =
       elim (cases_Bool (are_entries_after d 0 8 entries)) [
-        | inr out ↦ let z : Err Range ≡ Ok word =
+        | inr out ↦ let z =
             sym (cond-false (are_entries_after d 0 8 entries) (Ok (number_with d.q entries)) (Err Range) out) ∙ h in
             cc z
         | inl fit ↦
-            let z : Ok (number_with d.q entries) ≡ Ok word =
+            let z =
             sym (cond-true (are_entries_after d 0 8 entries) (Ok (number_with d.q entries)) (Err Range) fit) ∙ h in
             let e : number_with d.q entries ≡ word = cc z in
             subst (IsWritten Second parts) e (own entries is fit)
@@ -193,36 +199,35 @@ module _ (d : Dimensions) (order : 0 < d.q) (small : d.q < 2 ^ 127) (rows : d.s 
   written_word First [] word h = cc h
   written_word Second [] word h = cc h
   written_word First (part ∷ []) word h =
-      let k = number_taken (is_word_number d) (number_of part) word h in
+      let k = number_taken _ _ word h in
       let b = word_bounds word k.1 in
-      record { parts_are = ap (λ x. x ∷ []) (part_is part word k.0 (omega (arith, b.1))); some = b.0; below = b.1 }
+      record { parts_are = cc (part_is part word k.0 (omega arith)); some = b.0; below = b.1 }
   written_word First (part ∷ other ∷ others) word h = cc h
   written_word Second (part ∷ []) word h =
       elim (cases_Bool (bytes_eq (take 1 part) (codes "#"))) [
         | inl is ↦
             let h' = sym
-            (cond-true (bytes_eq (take 1 part) (codes "#")) (by_number (is_long_word d) (number_of (drop 1 part)))
+            (cond-true _ (by_number (is_long_word d) (number_of (drop 1 part)))
             (by_entries d (entries_of_parts (part ∷ []))) is) ∙ h in
-            let k = number_taken (is_long_word d) (number_of (drop 1 part)) word h' in
+            let k = number_taken _ _ word h' in
             let p = and_parts _ _ k.1 in
             let b = word_bounds word p.0 in
             let here : part ≡ 35 ∷ decimal word =
             after_mark part is ∙ ap (λ l. 35 ∷ l) (part_is (drop 1 part) word k.0 (omega (arith, b.1))) in
             record {
               parts_are =
-                  ap (λ x. x ∷ []) here ∙ sym
-                  (cond-false (is_short d word) (map entry_part (entries_from 1 (vector_of d word)))
+                  cc (cond-false (is_short d word) (map entry_part (entries_from 1 (vector_of d word)))
                   ((35 ∷ decimal word) ∷ []) (not-true _ p.1));
               some = b.0;
               below = b.1;
             }
         | inr other ↦
-            by_entries_written (part ∷ []) (entries_of_parts (part ∷ [])) word (omega arith) refl
-            (sym (cond-false (bytes_eq (take 1 part) (codes "#")) (by_number (is_long_word d) (number_of (drop 1 part)))
+            by_entries_written _ _ word (omega arith) refl
+            (sym (cond-false _ (by_number (is_long_word d) (number_of (drop 1 part)))
             (by_entries d (entries_of_parts (part ∷ []))) other) ∙ h)
       ]
   written_word Second (part ∷ other ∷ others) word h =
-      by_entries_written (part ∷ other ∷ others) (entries_of_parts (part ∷ other ∷ others)) word (omega arith) refl h
+      by_entries_written _ _ word (omega arith) refl h
 
 module _ (version : Version) (d : Dimensions) (beaten : Bool) (order : 0 < d.q) (small : d.q < 2 ^ 127)
     (rows : d.s + d.t < 2 ^ 127) (runs : d.q ^ d.m ≤ 1024) (words : d.q ^ (d.s + d.t) < 2 ^ 127) where
@@ -230,11 +235,11 @@ module _ (version : Version) (d : Dimensions) (beaten : Bool) (order : 0 < d.q) 
   ranged_ok row own mark h =
       elim (cases_Bool (ltb row (d.q ^ d.m))) [
         | inl low ↦
-            let z : Ok own ≡ Ok mark = sym (cond-true (ltb row (d.q ^ d.m)) (Ok own) (Err Range) low) ∙ h in
+            let z = sym (cond-true _ (Ok own) (Err Range) low) ∙ h in
             let e : own ≡ mark = cc z in
             let l : row < d.q ^ d.m = ltb-true _ _ low in
             (omega arith, e)
-        | inr out ↦ let z : Err Range ≡ Ok mark = sym (cond-false (ltb row (d.q ^ d.m)) (Ok own) (Err Range) out) ∙ h in
+        | inr out ↦ let z = sym (cond-false _ (Ok own) (Err Range) out) ∙ h in
             cc z
       ]
 
@@ -250,22 +255,19 @@ module _ (version : Version) (d : Dimensions) (beaten : Bool) (order : 0 < d.q) 
   short_is letter part (Some row) mark is h =
       elim (cases_Bool (bytes_eq letter (codes "O"))) [
         | inl o ↦
-            let r = ranged_ok row (Branch row) mark (sym (cond-true (bytes_eq letter (codes "O")) _ _ o) ∙ h) in
-            ap (λ l. l ∷ part ∷ []) (same_bytes letter (codes "O") o) ∙ ap (λ l. codes "O" ∷ l ∷ [])
-            (part_is part row is r.0) ∙ ap (λ (m : Mark). parts_for (meaning_of m)) r.1
+            let r = ranged_ok row (Branch row) mark (sym (cond-true _ _ _ o) ∙ h) in
+            cc (same_bytes letter _ o, part_is part row is r.0)
         | inr other ↦
             let h' = sym
-            (cond-false (bytes_eq letter (codes "O")) (ranged d row (Branch row))
+            (cond-false _ (ranged d row (Branch row))
             (cond (bytes_eq letter (codes "P") && beaten) (ranged d row (Worse row)) (Err Form)) other) ∙ h in
             elim (cases_Bool (bytes_eq letter (codes "P") && beaten)) [
               | inl p ↦
                   let r = ranged_ok row (Worse row) mark
-                  (sym (cond-true (bytes_eq letter (codes "P") && beaten) _ _ p) ∙ h') in
-                  ap (λ l. l ∷ part ∷ []) (same_bytes letter (codes "P") (and_parts _ _ p).0) ∙ ap
-                  (λ l. codes "P" ∷ l ∷ []) (part_is part row is r.0) ∙ ap (λ (m : Mark). parts_for (meaning_of m))
-                  r.1
-              | inr out ↦ let z : Err Form ≡ Ok mark =
-                  sym (cond-false (bytes_eq letter (codes "P") && beaten) (ranged d row (Worse row)) (Err Form) out) ∙
+                  (sym (cond-true _ _ _ p) ∙ h') in
+                  cc (same_bytes letter (codes "P") (and_parts _ _ p).0, part_is part row is r.0)
+              | inr out ↦ let z =
+                  sym (cond-false _ (ranged d row (Worse row)) (Err Form) out) ∙
                   h' in cc z
             ]
       ]
@@ -276,51 +278,52 @@ module _ (version : Version) (d : Dimensions) (beaten : Bool) (order : 0 < d.q) 
   word_is letter part parts None r mark is was h = cc h
   word_is letter part parts (Some row) r mark is was h =
       elim (cases_Bool (bytes_eq letter (codes "W"))) [
-        | inr out ↦ let z : Err Form ≡ Ok mark =
-            sym (cond-false (bytes_eq letter (codes "W")) (with_word d row r) (Err Form) out) ∙ h in cc z
-        | inl w ↦ own r was w (sym (cond-true (bytes_eq letter (codes "W")) (with_word d row r) (Err Form) w) ∙ h)
+        | inr out ↦ let z =
+            sym (cond-false _ (with_word d row r) (Err Form) out) ∙ h in cc z
+        | inl w ↦ own r was w (cc (cond-true _ (with_word d row r) (Err Form) w))
       ]
     where
       own : (r : Result ℕ FaultKind) → word_written version d parts ≡ r → bytes_eq letter (codes "W") ≡ true
           → with_word d row r ≡ Ok mark → letter ∷ part ∷ parts ≡ parts_for (meaning_of mark)
       own (Err kind) was w h = cc h
       own (Ok word) was w h =
-          let r = ranged_ok row (Word row word) mark h in
+          let r = ranged_ok row _ mark h in
           let written = written_word d order small rows words version parts word was in
-          ap (λ l. l ∷ part ∷ parts) (same_bytes letter (codes "W") w) ∙ ap (λ l. codes "W" ∷ l ∷ parts)
-          (part_is part row is r.0)
-          ∙ ap (λ l. codes "W" ∷ decimal row ∷ l) written.parts_are ∙ ap (λ (m : Mark). parts_for (meaning_of m)) r.1
+          cc (same_bytes letter _ w, part_is part row is r.0)
 
   pub entry_is : (parts : List (List ℕ)) (mark : Mark) → entry_of version d beaten parts ≡ Ok mark
       → parts ≡ parts_for (meaning_of mark)
   entry_is [] mark h = cc h
   entry_is (letter ∷ []) mark h = cc h
-  entry_is (letter ∷ row ∷ []) mark h = short_is letter row (number_of row) mark refl h
+  entry_is (letter ∷ row ∷ []) mark h = short_is letter row _ mark refl h
   entry_is (letter ∷ row ∷ part ∷ parts) mark h =
-      word_is letter row (part ∷ parts) (number_of row) (word_written version d (part ∷ parts)) mark refl refl h
+      word_is letter row _ _ _ mark refl refl h
 
   pub line_for : (mark : nodes.Mark) (rest : List ℕ)
       → joined 32 (parts_for mark) ++ 10 ∷ rest ≡ entry_text version d mark ++ rest
-  line_for (nodes.Branch row) rest = sym (ap (λ l. codes "O " ++ l) (append_assoc (decimal row) (10 ∷ []) rest))
+  line_for (nodes.Branch row) rest = cc (append_assoc (decimal row) (10 ∷ []) rest)
   line_for (nodes.Word row word) rest =
-      let parts : List ℕ = after_blanks (word_parts version d word) in
-      ap (λ l. codes "W " ++ l)
-      (ap (λ l. l ++ 10 ∷ rest) (joined_blanks (decimal row) (word_parts version d word)) ∙ append_assoc (decimal row)
-      parts (10 ∷ rest)
-      ∙ sym (append_assoc (decimal row) (parts ++ 10 ∷ []) rest ∙ ap (λ l. decimal row ++ l)
-      (append_assoc parts (10 ∷ []) rest)))
-  line_for (nodes.Worse row) rest = sym (ap (λ l. codes "P " ++ l) (append_assoc (decimal row) (10 ∷ []) rest))
+      let parts = after_blanks (word_parts version d word) in
+      cc (
+        joined_blanks (decimal row) (word_parts version d word),
+        append_assoc (decimal row)
+            parts (10 ∷ rest),
+        append_assoc (decimal row) (parts ++ 10 ∷ []) rest,
+        append_assoc parts (10 ∷ []) rest,
+      )
+  line_for (nodes.Worse row) rest = cc (append_assoc (decimal row) (10 ∷ []) rest)
 
   taken : (n : ℕ) (r : Result Mark FaultKind) (rest : Result (List nodes.Mark) BookFault) (marks : List nodes.Mark)
       → after_entry n r rest ≡ Ok marks
       → (mark : Mark) × (more : List nodes.Mark) × (r ≡ Ok mark) × (rest ≡ Ok more) × (marks ≡ meaning_of mark ∷ more)
   taken n (Err kind) rest marks h = cc h
   taken n (Ok mark) (Err stop) marks h = cc h
-  taken n (Ok mark) (Ok more) marks h = let e : meaning_of mark ∷ more ≡ marks = cc h in (mark, more, refl, refl, sym e)
+  taken n (Ok mark) (Ok more) marks h = let e : meaning_of mark ∷ more ≡ marks = cc h in (mark, more, refl, refl, cc)
 
-  pub last_line : (next : List ℕ) (lines : List (List ℕ)) → is_nothing (next ∷ lines) ≡ true → joined 10 (next ∷ lines) ≡ []
+  pub last_line : (next : List ℕ) (lines : List (List ℕ)) → is_nothing (next ∷ lines) ≡ true
+      → joined 10 (next ∷ lines) ≡ []
   last_line [] [] h = refl
-  last_line (b ∷ next) [] h = let z = eqb-true (length (b ∷ next)) 0 h in absurd (omega arith)
+  last_line (b ∷ next) [] h = let z = eqb-true _ 0 h in absurd (omega arith)
   last_line next (line ∷ lines) h = cc h
 
   pub entries_are : (n : ℕ) (lines : List (List ℕ)) (marks : List nodes.Mark)
@@ -335,9 +338,7 @@ module _ (version : Version) (d : Dimensions) (beaten : Bool) (order : 0 < d.q) 
               | inl none ↦
                   let z : Ok [] ≡ Ok marks = sym (cond-true (is_nothing (next ∷ lines)) _ _ none) ∙ h' in
                   let e : [] ≡ marks = cc z in
-                  ap (λ l. l ++ 10 ∷ joined 10 (next ∷ lines)) (same_bytes line (codes "END") end) ∙ ap
-                  (λ l. codes "END\n" ++ l) (last_line next lines none)
-                  ∙ ap (λ ms. entries_text version d ms ++ codes "END\n") e
+                  cc (same_bytes line (codes "END") end, last_line next lines none)
               | inr more ↦ let z = sym (cond-false (is_nothing (next ∷ lines)) _ _ more) ∙ h' in cc z
             ]
         | inr other ↦

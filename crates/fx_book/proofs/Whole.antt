@@ -1,9 +1,8 @@
 -- A whole book that was written is read.
-use Rattle.std.proofs.Common.{◌≡◌, ℕ, ◌+◌, ◌^◌, ◌<◌, ◌≤◌, Bool, true, false, inl, inr, ltb, leb, subst, le-leb, List}
-use Rattle.std.proofs.Common.{[], ◌∷◌, ◌++◌, length, Option, Some, None, Ok, Err, refl, sym, ap, ◌∙◌, arith}
+use Rattle.std.proofs.Common.{◌≡◌, ℕ, ◌^◌, ◌<◌, ◌≤◌, Bool, true, false, inl, inr, ltb, leb, le-leb, List}
+use Rattle.std.proofs.Common.{[], ◌∷◌, ◌++◌, length, Option, Some, None, Ok, Err, refl, ap, ◌∙◌, arith}
 use Rattle.std.proofs.Common.{append_assoc, eq-eqb, le-ltb}
 use Rattle.std.specs.Prelude.{codes}
-use Rattle.std.specs.List.{AllByRecursion}
 use Rattle.std.specs.Option.{is_some}
 use Rattle.std.proofs.lemmas.Bool.{cond-true, cond-false, cases_Bool, cases_lt, both_ways, and_from}
 use Rattle.std.proofs.lemmas.List.Elements.{recursion_from_All}
@@ -23,13 +22,14 @@ use Rattle.fx_book.specs.Parts.{split}
 use Rattle.fx_book.specs.Entries.{entries_text}
 use Rattle.fx_book.specs.Reading.{entries}
 use Rattle.fx_book.specs.Demands.{demands_of}
-use Rattle.fx_book.specs.Heads.{book_of, from_title, with_version, with_head, head_of, from_demands, from_beat, with_shape}
+use Rattle.fx_book.specs.Heads.{book_of, from_title, with_version, with_head, head_of, from_demands, from_beat}
+use Rattle.fx_book.specs.Heads.{with_shape}
 use Rattle.fx_book.specs.Heads.{with_demands, with_beat, with_marks, shape_of, beat_of, may_be_beaten}
 use Rattle.fx_book.specs.declared.version.Version.{Version}
 use Rattle.fx_book.specs.declared.version.Version.TheVariants.{First, Second}
 use Rattle.fx_book.specs.Versions.{title_of, version_of, most_factors_in}
 use Rattle.fx_book.specs.Writing.{spaced, shape_text, demands_text, beat_text, text_in, book_text}
-use Rattle.fx_book.specs.Valid.{AreFew, IsEntry, IsBeat, IsValidHead, IsValidBook}
+use Rattle.fx_book.specs.Valid.{AreFew, IsBeat, IsValidHead, IsValidBook}
 use Rattle.fx_book.proofs.Splits.{some_parts}
 use Rattle.fx_book.proofs.Lines.{line_more}
 use Rattle.fx_book.proofs.Back.{Without, split_line, without-append, entries_back}
@@ -47,8 +47,8 @@ own_title First = refl
 own_title Second = refl
 
 least_is : (s : ℕ) (least : Bool) (beat : Option (List ℕ)) → IsBeat s least beat → is_some beat ≡ least
-least_is s least None h = sym h
-least_is s least (Some pattern) h = sym h.0
+least_is s least None h = cc
+least_is s least (Some pattern) h = cc
 
 -- the lines that say what a book is about, with this text after them
 module _ (version : Version) (head : Head) (valid : IsValidHead head)
@@ -78,15 +78,21 @@ module _ (version : Version) (head : Head) (valid : IsValidHead head)
       × (beat_of shape.s (may_be_beaten shape asked) line ≡ Some beat)
   beat_cut None rest h = (codes "pattern none", refl, refl)
   beat_cut (Some pattern) rest h =
-      let each : AllByRecursion (λ a. a < 2 ^ 127) pattern = recursion_from_All (λ a. a < 2 ^ 127) pattern h.2 in
-      let line : List ℕ = codes "pattern" ++ spaced pattern in
+      let each = recursion_from_All _ pattern h.2 in
+      let line = codes "pattern" ++ spaced pattern in
       let own : Without 10 line =
       (refl, (refl, (refl, (refl, (refl, (refl, (refl, one_line pattern (wider pattern each)))))))) in (
         line,
-        ap (λ l. split 10 (codes "pattern" ++ l)) (append_assoc (spaced pattern) (10 ∷ []) rest) ∙ split_line 10 line
-            rest own,
-        ap (λ b. beat_of shape.s b line) (may h.0) ∙ pattern_back shape.s pattern valid.question.shaped.some_factors h.1
-            each,
+        cc (
+          append_assoc (spaced pattern) (10 ∷ []) rest,
+          split_line 10 line
+              rest own,
+        ),
+        cc (
+          may h.0,
+          pattern_back shape.s pattern valid.question.shaped.some_factors h.1
+              each,
+        ),
       )
 
   -- the line of the demands, and what follows it
@@ -95,24 +101,24 @@ module _ (version : Version) (head : Head) (valid : IsValidHead head)
       → (line : List ℕ) × (split 10 (demands_text asked ++ rest) ≡ line ∷ split 10 rest)
       × (demands_of shape (split 32 line) ≡ Some asked)
   demands_cut (Resolution r) rest h few =
-      let line : List ℕ = codes "resolution" ++ spaced (r ∷ []) in
-      let small : r < 2 ^ 128 = omega (arith, h.1) in
+      let line = codes "resolution" ++ spaced (r ∷ []) in
+      let small : r < 2 ^ 128 = omega arith in
       let own : Without 10 line =
       (refl, (refl, (refl, (refl, (refl, (refl, (refl, (refl, (refl, (refl, one_line (r ∷ []) (small, tt)))))))))))
       in (
         line,
-        ap (λ l. split 10 (codes "resolution" ++ l)) (append_assoc (spaced (r ∷ [])) (10 ∷ []) rest) ∙ split_line 10
-            line rest own,
+        cc (
+          append_assoc (spaced (r ∷ [])) (10 ∷ []) rest,
+          split_line 10
+              line rest own,
+        ),
         resolution_back shape r h.0 h.1,
       )
   demands_cut (Effects estimate others) rest h few =
-      let ns : List ℕ = numbers_of estimate in
-      let ms : List ℕ = numbers_of others in
+      let ns = numbers_of estimate in
+      let ms = numbers_of others in
       let short = valid.question.shaped.factors in
-      let line : List ℕ = codes "effects" ++ (spaced ns ++ (codes " /" ++ spaced ms)) in
-      let mine : Without 10 (spaced ns) = one_line ns (small shape.s ns short (each_number shape.s ns h.estimated)) in
-      let theirs : Without 10 (codes " /" ++ spaced ms) =
-      (refl, (refl, one_line ms (small shape.s ms short (each_number shape.s ms h.others)))) in
+      let line = codes "effects" ++ (spaced ns ++ (codes " /" ++ spaced ms)) in
       let own : Without 10 line = (
         refl,
         (
@@ -121,18 +127,32 @@ module _ (version : Version) (head : Head) (valid : IsValidHead head)
             refl,
             (
               refl,
-              (refl, (refl, (refl, without-append 10 (spaced ns) (codes " /" ++ spaced ms) mine theirs))),
+              (
+                refl,
+                (
+                  refl,
+                  (
+                    refl,
+                    without-append 10 _ _
+                        (one_line ns (small shape.s ns short (each_number shape.s ns h.estimated)))
+                        (refl, (refl, one_line ms (small shape.s ms short (each_number shape.s ms h.others)))),
+                  ),
+                ),
+              ),
             ),
           ),
         ),
       ) in
       let text : (spaced ns ++ (codes " /" ++ (spaced ms ++ codes "\n"))) ++ rest
       ≡ (spaced ns ++ (codes " /" ++ spaced ms)) ++ 10 ∷ rest =
-      append_assoc (spaced ns) (codes " /" ++ (spaced ms ++ codes "\n")) rest ∙ ap (λ l. spaced ns ++ (codes " /" ++ l))
-      (append_assoc (spaced ms) (10 ∷ []) rest)
-      ∙ sym (append_assoc (spaced ns) (codes " /" ++ spaced ms) (10 ∷ rest)) in (
+      cc (
+        append_assoc (spaced ns) (codes " /" ++ (spaced ms ++ codes "\n")) rest,
+        append_assoc (spaced ms) (10 ∷ [])
+            rest,
+        append_assoc (spaced ns) (codes " /" ++ spaced ms) (10 ∷ rest),
+      ) in (
         line,
-        ap (λ l. split 10 (codes "effects" ++ l)) text ∙ split_line 10 line rest own,
+        cc (split_line 10 line rest own),
         effects_back shape estimate others short h few.0 few.1,
       )
 
@@ -142,9 +162,9 @@ module _ (version : Version) (head : Head) (valid : IsValidHead head)
       ap (from_beat shape asked) cut.1
       ∙ line_more (Err (fault kind.Pattern 4))
       (λ line rest. with_beat shape asked rest (beat_of shape.s (may_be_beaten shape asked) line)) cut.0
-      (split 10 after_beat) (some_parts 10 after_beat)
+      _ (some_parts 10 after_beat)
       ∙ ap (with_beat shape asked (split 10 after_beat)) cut.2
-      ∙ ap (λ (least : Bool). Ok (
+      ∙ ap (λ least. Ok (
         record { question = record { shape = shape; demands = asked; least = least }; beat = beat },
         split 10 after_beat,
       ))
@@ -153,17 +173,15 @@ module _ (version : Version) (head : Head) (valid : IsValidHead head)
   from_demands_back : from_demands shape (split 10 after_shape) ≡ from_beat shape asked (split 10 after_demands)
   from_demands_back =
       let cut = demands_cut asked after_demands valid.question.asked valid.few_effects in
-      ap (from_demands shape) cut.1
-      ∙ line_more (Err (fault kind.Demands 3))
-      (λ line rest. with_demands shape rest (demands_of shape (split 32 line))) cut.0 (split 10 after_demands)
-      (some_parts 10 after_demands)
-      ∙ ap (with_demands shape (split 10 after_demands)) cut.2
+      cc (line_more (Err (fault kind.Demands 3))
+      (λ line rest. with_demands shape rest (demands_of shape (split 32 line))) cut.0 _
+      (some_parts 10 after_demands))
 
   -- a head that was written is read
   pub head_back : head_of version (split 10 (shape_text shape ++ after_shape)) ≡ Ok (head, split 10 after_beat)
   head_back =
       let numbers : List ℕ = shape.q ∷ shape.m ∷ shape.s ∷ shape.t ∷ [] in
-      let line : List ℕ = codes "size" ++ spaced numbers in
+      let line = codes "size" ++ spaced numbers in
       let own : Without 10 line =
       (refl, (refl, (refl, (refl, one_line numbers (wide_shape version shape valid.question.shaped few_factors)))))
       in
@@ -171,7 +189,7 @@ module _ (version : Version) (head : Head) (valid : IsValidHead head)
       (ap (λ l. split 10 (codes "size" ++ l)) (append_assoc (spaced numbers) (10 ∷ []) after_shape) ∙ split_line 10
       line after_shape own)
       ∙ line_more (Err (fault kind.Size 2)) (λ line rest. with_shape rest (shape_of version (split 32 line)))
-      line (split 10 after_shape) (some_parts 10 after_shape)
+      line _ (some_parts 10 after_shape)
       ∙ ap (with_shape (split 10 after_shape)) (shape_back version shape valid.question.shaped few_factors)
       ∙ from_demands_back ∙ from_beat_back
 
@@ -191,12 +209,12 @@ module _ (version : Version) (book : Book) (valid : IsValidBook book)
   marks_back : entries version (dimensions_of own) (is_some book.head.beat) 5 (split 10 entries_and_end)
       ≡ Ok book.marks
   marks_back =
-      entries_back version (dimensions_of own) (is_some book.head.beat)
+      entries_back version (dimensions_of own) _
       (omega (arith, (order-bounds own.q valid.question.shaped.order).0))
       (omega (arith, (order-bounds own.q valid.question.shaped.order).1))
       (omega (arith, rows_fit own valid.question.shaped)) valid.question.shaped.runs
-      (words_fit own valid.question.shaped (own.s + own.t) (omega arith))
-      book.marks 5 (recursion_from_All (IsEntry (dimensions_of own) (is_some book.head.beat)) book.marks valid.marks)
+      (words_fit own valid.question.shaped _ (omega arith))
+      book.marks 5 (recursion_from_All _ book.marks valid.marks)
 
   pub written_back : length (text_in version book) ≤ 268435456 → book_of (text_in version book) ≡ Ok book
   unfolding book_of
@@ -204,9 +222,9 @@ module _ (version : Version) (book : Book) (valid : IsValidBook book)
       let valid_head : IsValidHead book.head =
       record { question = valid.question; few_effects = valid.few_effects; beat = valid.beat } in
       cond-false (ltb 268435456 (length (text_in version book))) _ _ (le-ltb _ _ few)
-      ∙ ap from_title (split_line 10 (title_of version) after_title (plain_title version))
+      ∙ ap from_title (split_line 10 _ after_title (plain_title version))
       ∙ line_more (Err (fault kind.Title 1)) (λ line rest. with_version rest (version_of line)) (title_of version)
-      (split 10 after_title) (some_parts 10 after_title)
+      _ (some_parts 10 after_title)
       ∙ ap (with_version (split 10 after_title)) (own_title version)
       ∙ ap (with_head version) (head_back version book.head valid_head few_factors entries_and_end)
       ∙ ap (with_marks book.head) marks_back
@@ -216,10 +234,9 @@ pub second_fits : (shape : Shape) → IsShape shape → shape.s ≤ most_factors
 second_fits shape h =
     elim (cases_Bool (leb shape.q 3)) [
       | inl few ↦
-          subst (λ n. shape.s ≤ n) (sym (cond-true (leb shape.q 3) MOST_FACTORS MOST_FACTORS_OF_MANY_LEVELS few)) h.factors
+          rw (cond-true _ MOST_FACTORS MOST_FACTORS_OF_MANY_LEVELS few) h.factors
       | inr many ↦
-          subst (λ n. shape.s ≤ n) (sym (cond-false (leb shape.q 3) MOST_FACTORS MOST_FACTORS_OF_MANY_LEVELS many))
-          (h.factors_of_many_levels (over shape.q many))
+          rw (cond-false _ MOST_FACTORS MOST_FACTORS_OF_MANY_LEVELS many) (h.factors_of_many_levels (over shape.q many))
     ]
   where
     over : (q : ℕ) → leb q 3 ≡ false → 3 < q

@@ -1,6 +1,6 @@
 -- The line of an answer.
-use Rattle.std.proofs.Common.{ℕ, ◌≡◌, ◌<◌, ◌≤◌, List, length, Option, Some, None, sym, ◌∙◌, ap, ap₂, arith, subst, inl, inr}
-use Rattle.std.specs.Option.{option_map}
+use Rattle.std.proofs.Common.{ℕ, ◌≡◌, ◌<◌, ◌≤◌, List, length, Option, Some, None, sym, arith, subst, inl}
+use Rattle.std.proofs.Common.{inr}
 use Rattle.std.specs.Prelude.{nat_lt}
 use Rattle.std.proofs.lemmas.Bool.{cases_Bool, cond-true, cond-false, lt-ltb, le-ltb}
 use Rattle.fx_designs.specs.Patterns.{pattern_of}
@@ -27,21 +27,20 @@ pub within : (shape : Shape) (budget : ℕ) (found : Option (List ℕ)) → coun
     → line_by shape found ≡ line_of shape budget
 unfolding line_of
 within shape budget found le is =
-    ap (line_by shape) (sym is)
-    ∙ sym (cond-false (nat_lt budget (count_at shape)) Budget (line_by shape (answer (problem_at shape)))
-    (le-ltb budget (count_at shape) le))
+    cc (cond-false _ Budget (line_by shape (answer (problem_at shape)))
+    (le-ltb budget _ le))
 
 pub budget-line : (shape : Shape) (budget : ℕ) → budget < count_at shape → Budget ≡ line_of shape budget
 unfolding line_of
 budget-line shape budget more =
-    sym (cond-true (nat_lt budget (count_at shape)) Budget (line_by shape (answer (problem_at shape)))
-    (lt-ltb budget (count_at shape) more))
+    sym (cond-true _ Budget (line_by shape (answer (problem_at shape)))
+    (lt-ltb budget _ more))
 
 pub nothing-line : (shape : Shape) (budget count : ℕ) (book : Book) → answer (problem_at shape) ≡ None
     → count ≡ count_at shape → book ≡ book_for (problem_at shape) → count ≤ budget
     → Nothing count book ≡ line_of shape budget
 nothing-line shape budget count book none ec eb le =
-    ap₂ Nothing ec eb ∙ within shape budget None (omega (arith, ec, le)) none
+    cc (within shape budget None (omega arith) none)
 
 pub least-line : (matrix : MatrixView) (budget count : ℕ) (pattern : List ℕ) (book : Book)
     → answer (problem_at matrix.shape) ≡ Some matrix.rows → count ≡ count_at matrix.shape
@@ -49,33 +48,28 @@ pub least-line : (matrix : MatrixView) (budget count : ℕ) (pattern : List ℕ)
     → book ≡ book_for (problem_at matrix.shape) → count ≤ budget
     → Least matrix pattern count book ≡ line_of matrix.shape budget
 least-line matrix budget count pattern book is ec ep eb le =
-    let whole : List ℕ = pattern_of (dimensions_of matrix.shape) matrix.rows in
-    ap (λ (b : List ℕ). Least matrix b count book) ep
-    ∙ ap₂ (λ (n : ℕ) (b : Book). Least matrix whole n b) ec eb
-    ∙ within matrix.shape budget (Some matrix.rows) (omega (arith, ec, le)) is
+    cc (within matrix.shape budget _ (omega arith) is)
 
 -- the pattern of the answer is the one to beat
 pub to-beat : (shape : Shape) (rows beat : List ℕ) (question : Question) → question ≡ question_of shape
     → answer (problem_at shape) ≡ Some rows → beat ≡ pattern_of (dimensions_of shape) rows
     → beat_of (problem_of question) ≡ Some beat
 to-beat shape rows beat question eq is eb =
-    ap (λ (q : Question). beat_of (problem_of q)) eq
-    ∙ ap (option_map (pattern_of (dimensions_of shape))) is
-    ∙ ap Some (sym eb)
+    cc
 
 -- a pattern has a number for each factor
 by_short : (shape : Shape) → shape.s ≤ 254 → (found : Option (List ℕ)) → IsShort (line_by shape found)
 by_short shape few None = tt
-by_short shape few (Some rows) = subst (λ (n : ℕ). n ≤ 254) (sym (pattern-length (dimensions_of shape) rows)) few
+by_short shape few (Some rows) = rw (pattern-length (dimensions_of shape) rows) few
 
 pub short : (shape : Shape) (budget : ℕ) → shape.s ≤ 254 → IsShort (line_of shape budget)
 unfolding line_of
 short shape budget few = elim (cases_Bool (nat_lt budget (count_at shape))) [
   | inl more ↦
-      subst IsShort (sym (cond-true (nat_lt budget (count_at shape)) Budget (line_by shape (answer (problem_at shape))) more))
+      subst IsShort (sym (cond-true _ Budget (line_by shape (answer (problem_at shape))) more))
       tt
   | inr inside ↦
       subst IsShort
-      (sym (cond-false (nat_lt budget (count_at shape)) Budget (line_by shape (answer (problem_at shape))) inside))
+      (sym (cond-false _ Budget (line_by shape (answer (problem_at shape))) inside))
       (by_short shape few (answer (problem_at shape)))
 ]

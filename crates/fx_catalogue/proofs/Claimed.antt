@@ -29,7 +29,7 @@ use Rattle.fx_catalogue.proofs.Answered.{within}
 -- the head of the book of a line, by the answer of its question
 pub head-by-answer : (shape : Shape) (found : Option (List ℕ)) → answer (problem_at shape) ≡ found
     → (book_for (problem_at shape)).head ≡ head_at shape (option_map (pattern_of (dimensions_of shape)) found)
-head-by-answer shape found is = ap (λ a. head_at shape (option_map (pattern_of (dimensions_of shape)) a)) is
+head-by-answer shape found is = cc
 
 module _ (shape : Shape) (hs : IsShape shape) (free : shape.t ≡ 0) where
   abbrev p : Problem
@@ -44,21 +44,20 @@ module _ (shape : Shape) (hs : IsShape shape) (free : shape.t ≡ 0) where
   -- the book of the question claims this, where this is the pattern to beat
   good : (beat : Option (List ℕ)) → beat_of p ≡ beat → IsGood (claim_over p (is_some beat) beat) (marks p)
       → IsGood (claim_of (head_for p)) (marks p)
-  good beat is h = subst (λ b. IsGood (claim_over p (is_some b) b) (marks p)) (sym is) h
+  good beat is h = rw is h
 
   absent : answer p ≡ None → IsAbsent shape (book_for p)
   absent none = record {
     none = (none-exactly p field (omega arith)).0 ((no_answer p some).0 none);
     head_is = head-by-answer shape None none;
-    good = good None (ap (option_map (pattern_of p.dimensions)) none)
+    good = good None (cc)
         (none_good p hs.order (omega arith, omega arith) some false none);
   }
 
   least : (rows : List ℕ) → answer p ≡ Some rows
       → IsLeast shape (record { shape = shape; rows = rows }) (pattern_of (dimensions_of shape) rows) (book_for p)
   least rows is =
-      let first = answer-is-first p field some refl (Some rows) is in
-      let parts = and_parts _ _ first.0 in
+      let parts = and_parts _ _ (answer-is-first p field some refl _ is).0 in
       record {
         of_shape = refl;
         whole = eqb-true _ _ parts.0 ∙ (let e : shape.s + shape.t ≡ shape.s = omega arith in e);
@@ -66,8 +65,8 @@ module _ (shape : Shape) (hs : IsShape shape) (free : shape.t ≡ 0) where
         pattern_is = refl;
         least = λ factors blocks matrix met.
             least-of_all p field (omega arith) rows factors blocks refl is matrix met;
-        head_is = head-by-answer shape (Some rows) is;
-        good = good (Some (pattern_of p.dimensions rows)) (ap (option_map (pattern_of p.dimensions)) is)
+        head_is = head-by-answer shape _ is;
+        good = good _ (ap (option_map (pattern_of p.dimensions)) is)
             (some_good p hs.order (omega arith, omega arith) some true refl rows is);
       }
 
@@ -78,14 +77,14 @@ module _ (shape : Shape) (hs : IsShape shape) (free : shape.t ≡ 0) where
   pub holds : (budget : ℕ) → Holds shape budget (line_of shape budget)
   unfolding line_of
   holds budget =
-      let count : ℕ = length (nodes p) in
+      let count = length (nodes p) in
       elim (cases_Bool (nat_lt budget count)) [
         | inl more ↦
             subst (Holds shape budget)
-            (sym (cond-true (nat_lt budget count) Budget (line_by shape (answer p)) more)) (ltb-true budget count more)
+            (sym (cond-true _ Budget (line_by shape (answer p)) more)) (ltb-true budget count more)
         | inr inside ↦
             subst (Holds shape budget)
-            (sym (cond-false (nat_lt budget count) Budget (line_by shape (answer p)) inside))
+            (sym (cond-false _ Budget (line_by shape (answer p)) inside))
             (by_answer budget (answer p) refl)
       ]
 
@@ -103,12 +102,12 @@ pub budget-ends : (shape : Shape) (budget : ℕ)
     → (line_of shape budget ≡ Budget) ↔ (budget < length (nodes (problem_at shape)))
 unfolding line_of
 budget-ends shape budget =
-    let count : ℕ = length (nodes (problem_at shape)) in (
+    let count = length (nodes (problem_at shape)) in (
       λ e. elim (cases_Bool (nat_lt budget count)) [
         | inl more ↦ ltb-true budget count more
         | inr inside ↦
-            absurd (no_budget shape (answer (problem_at shape))
-            (sym (cond-false (nat_lt budget count) Budget (line_by shape (answer (problem_at shape))) inside) ∙ e))
+            absurd (no_budget shape _
+            (sym (cond-false _ Budget (line_by shape (answer (problem_at shape))) inside) ∙ e))
       ],
-      λ h. cond-true (nat_lt budget count) Budget (line_by shape (answer (problem_at shape))) (lt-ltb budget count h),
+      λ h. cond-true _ Budget _ (lt-ltb budget count h),
     )

@@ -1,12 +1,12 @@
 -- The ends of products and of listings.
-use Rattle.std.proofs.Common.{ℕ, ◌≡◌, ◌<◌, zero, suc, List, [], ◌∷◌, ◌++◌, map, length, drop, get_or, refl, ap, ◌∙◌}
+use Rattle.std.proofs.Common.{ℕ, ◌≡◌, ◌<◌, zero, suc, List, [], ◌∷◌, ◌++◌, map, length, drop, get_or, refl}
 use Rattle.std.proofs.Common.{append_assoc, arith}
 use Rattle.std.specs.Prelude.{◌==◌, if◌then◌else◌}
 use Rattle.fx_components.specs.Products.{term, terms}
 
 -- one piece after another
 pub behind : (old first now piece all : List ℕ) → now ≡ old ++ first → first ++ piece ≡ all → now ++ piece ≡ old ++ all
-behind old first now piece all e h = ap (λ z. z ++ piece) e ∙ append_assoc old first piece ∙ ap (λ z. old ++ z) h
+behind old first now piece all e h = cc (append_assoc old first piece)
 
 -- the terms from an entry on
 pub next_entry : {X : Type 0} (name_of : X → List ℕ) (xs : List X) (d : X) (u : List ℕ) (i : ℕ) → i < length xs

@@ -1,5 +1,5 @@
 -- How often each level comes over the first runs, and balance.
-use Rattle.std.proofs.Common.{ℕ, ◌≡◌, ◌≢◌, ◌<◌, ◌≤◌, ◌↔◌, ◌+◌, ◌^◌, Bool, IsTrue, eqb, List, [], length, take, set}
+use Rattle.std.proofs.Common.{ℕ, ◌≡◌, ◌<◌, ◌≤◌, ◌↔◌, ◌+◌, ◌^◌, Bool, IsTrue, eqb, List, [], length, take, set}
 use Rattle.std.proofs.Common.{get_or, get_or-set_other, get_or-set_same, sym, ◌∙◌, ap, arith, inl, inr}
 use Rattle.std.specs.Bool.{Decides}
 use Rattle.std.specs.Prelude.{count_by}
@@ -32,22 +32,20 @@ module _ (q : ℕ) (places : List ℕ) (runs : List (List ℕ)) where
     len = simp length-set c.len;
     each = λ y small. elim (cases_eq y v) [
       | inl e ↦
-          let room : v < length counts = omega (arith, c.len) in
+          let room : v < length counts = omega arith in
           let yes = count_by_more_yes (has y) runs k [] h (eq-eqb _ _ (is ∙ sym e)) in
-          let was = c.each y small in
-          rw (e, get_or-set_same) (ap (λ (n : ℕ). n + 1) (rw e at was) ∙ sym (rw e at yes))
+          rw (e, get_or-set_same) (ap (λ n. n + 1) (rw e at (c.each y small)) ∙ sym (rw e at yes))
       | inr ne ↦
-          let other : y ≢ v = ne in
-          let miss = count_by_more_no (has y) runs k [] h (ne_eqb _ _ (λ e. ne (sym e ∙ is))) in
-          rw get_or-set_other (c.each y small ∙ sym miss)
+          let other = ne in
+          rw get_or-set_other
+          (cc (c.each y small, (count_by_more_no (has y) runs k [] h (ne_eqb _ _ (λ e. ne (sym e ∙ is))))))
     ];
   }
 
   -- after all runs
   pub counted_all : (counts : List ℕ) (k : ℕ) → length runs ≤ k → Counted counts k → AreLevelCounts q places runs counts
   counted_all counts k past c =
-      let whole : take k runs ≡ runs = take_all k runs past in
-      record { len = c.len; each = λ y h. rw whole at (c.each y h) }
+      record { len = c.len; each = λ y h. rw (take_all k runs past) at (c.each y h) }
 
   -- equally often, as a fact
   abbrev pub AreBalanced : Type 0
@@ -58,7 +56,7 @@ module _ (q : ℕ) (places : List ℕ) (runs : List (List ℕ)) where
   pub levels_decide : Decides (are_levels_balanced q places runs) AreBalanced
   unfolding are_levels_balanced
   levels_decide =
-      let n : ℕ = q ^ length places in
+      let n = q ^ length places in
       let outer =
       range_decides
       (λ y. list_all (λ z. eqb (level_count q places y runs) (level_count q places z runs)) (range_with_len 0 n))
@@ -72,18 +70,18 @@ module _ (q : ℕ) (places : List ℕ) (runs : List (List ℕ)) where
   pub counts_tell : (counts : List ℕ) (b : Bool) → 0 < q ^ length places → AreLevelCounts q places runs counts
       → IsTrue b ↔ AreEqual counts → b ≡ are_levels_balanced q places runs
   counts_tell counts b some c told =
-      bool_same b (are_levels_balanced q places runs)
+      bool_same b _
       (λ e. levels_decide.1
-      (λ y z hy hz. sym (c.each y hy) ∙ told.0 e y (omega (arith, c.len)) ∙ sym (told.0 e z (omega (arith, c.len)))
+      (λ y z hy hz. sym (c.each y hy) ∙ told.0 e y (omega arith) ∙ sym (told.0 e z (omega arith))
       ∙ c.each z hz))
       (λ e. told.1
       (λ y h.
-      let low : y < q ^ length places = omega (arith, c.len) in
+      let low : y < q ^ length places = omega arith in
       c.each y low ∙ levels_decide.0 e y 0 low some ∙ sym (c.each 0 some)))
 
 -- four factors have at most 6,561 levels
 pub levels_fit : (q k : ℕ) → IsTrue (is_order q) → k ≤ 4 → q ^ k < 2 ^ 64
 levels_fit q k known few =
     let more : 9 ^ k ≤ 9 ^ 4 = pow-le-pow_right (omega arith) few in
-    let less : q ^ k ≤ 9 ^ k = pow-le-pow_left (order-bounds q known).1 k in
+    let less = pow-le-pow_left (order-bounds q known).1 k in
     omega (arith, more, less)

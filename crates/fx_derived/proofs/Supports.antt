@@ -1,6 +1,6 @@
 -- Vectors that are supported on some places, and the codes at these.
 use Rattle.std.proofs.Common.{ℕ, ◌≡◌, ◌≢◌, ◌<◌, ◌≤◌, ◌+◌, ◌-◌, zero, suc, ◌⊎◌, inl, inr, List, [], ◌∷◌, length}
-use Rattle.std.proofs.Common.{set, drop, get_or, length-set, refl, sym, ◌∙◌, ap, ap₂}
+use Rattle.std.proofs.Common.{set, get_or, length-set, refl, sym, ◌∙◌, ap}
 use Rattle.std.proofs.Common.{arith}
 use Rattle.std.specs.List.{AllByRecursion}
 use Rattle.std.proofs.lemmas.Bool.{cases_eq}
@@ -38,56 +38,58 @@ kept : (w places : List ℕ) (p c : ℕ) → 1 ≤ p → AllByRecursion (λ r. (
     → codes_at places (set w (p - 1) c) ≡ codes_at places w
 kept w [] p c h each = refl
 kept w (r ∷ places) p c h each =
-    let other : r - 1 ≢ p - 1 = λ e. each.0.1 (let k = each.0.0 in omega arith) in
-    ap₂ (λ (a : ℕ) (l : List ℕ). a ∷ l) (set_else w (p - 1) (r - 1) c other) (kept w places p c h each.1)
+    cc (set_else w (p - 1) (r - 1) c (λ e. each.0.1 (let k = each.0.0 in omega arith)), kept w places p c h each.1)
 
 module _ (q : ℕ) (f : IsField q) where
   some : 0 < q
-  some = omega (arith, f.more_than_one)
+  some = omega arith
 
   none-dot : (w x : List ℕ) → ((i : ℕ) → get_or w i 0 ≡ 0) → dot q w x ≡ 0
   none-dot [] x h = refl
   none-dot (a ∷ w) [] h = refl
   none-dot (a ∷ w) (b ∷ x) h =
-      let first : a ≡ 0 = h 0 in
-      let rest : dot q w x ≡ 0 = none-dot w x (λ i. h (suc i)) in
-      ap₂ (add q) (ap (λ (c : ℕ). mul q c b) first ∙ zero-mul q f b) rest ∙ zero-add-code q f 0 some
+      cc ((h 0), zero-mul q f b, (none-dot w x (λ i. h (suc i))), zero-add-code q f 0 some)
 
   -- one entry apart
   dot-apart : (w x : List ℕ) (i : ℕ) → dot q w x ≡ add q (mul q (get_or w i 0) (get_or x i 0)) (dot q (set w i 0) x)
-  dot-apart [] x i = sym (ap (λ (c : ℕ). add q c 0) (zero-mul q f (get_or x i 0)) ∙ zero-add-code q f 0 some)
+  dot-apart [] x i = cc (zero-mul q f (get_or x i 0), zero-add-code q f 0 some)
   dot-apart (a ∷ w) [] i =
-      sym (ap₂ (add q) (f.mul_zero (get_or (a ∷ w) i 0)) (dot-nil q (set (a ∷ w) i 0)) ∙ zero-add-code q f 0 some)
+      cc (f.mul_zero (get_or (a ∷ w) i 0), dot-nil q (set (a ∷ w) i 0), zero-add-code q f 0 some)
   dot-apart (a ∷ w) (b ∷ x) zero =
-      ap (add q (mul q a b))
-      (sym (ap (λ (c : ℕ). add q c (dot q w x)) (zero-mul q f b) ∙ zero-add-code q f (dot q w x) (dot_code q f w x)))
+      cc (zero-mul q f b, zero-add-code q f _ (dot_code q f w x))
   dot-apart (a ∷ w) (b ∷ x) (suc i) =
-      let t : ℕ = mul q (get_or w i 0) (get_or x i 0) in
-      let d : ℕ = dot q (set w i 0) x in
-      ap (add q (mul q a b)) (dot-apart w x i)
-      ∙ sym (f.add_assoc (mul q a b) t d) ∙ ap (λ (c : ℕ). add q c d) (f.add_comm (mul q a b) t) ∙ f.add_assoc t
-      (mul q a b) d
+      let t = mul q (get_or w i 0) (get_or x i 0) in
+      let d = dot q (set w i 0) x in
+      cc (
+        dot-apart w x i,
+        f.add_assoc (mul q a b) t d,
+        f.add_comm (mul q a b) t,
+        f.add_assoc t
+            (mul q a b) d,
+      )
 
   -- the places tell all of a vector that is supported on them
   pub dot-at : (places w x : List ℕ) → Apart places → Supported places w
       → dot q (codes_at places w) (codes_at places x) ≡ dot q w x
   dot-at [] w x apart on = sym (none-dot w x (λ i. elim (on i) [ inl z ↦ z | inr bad ↦ absurd bad ]))
   dot-at (p ∷ places) w x apart on =
-      let less : List ℕ = set w (p - 1) 0 in
+      let less = set w (p - 1) 0 in
       let left : Supported places less = λ i. elim (cases_eq i (p - 1)) [
-        | inl e ↦ inl (ap (λ (k : ℕ). get_or less k 0) e ∙ set_zero w (p - 1))
+        | inl e ↦ inl (ap (λ k. get_or less k 0) e ∙ set_zero w (p - 1))
         | inr ne ↦ elim (on i) [
-          | inl z ↦ inl (set_else w (p - 1) i 0 ne ∙ z)
+          | inl z ↦ inl (set_else w _ i 0 ne ∙ z)
           | inr here ↦ elim here [
             | inl e ↦ absurd (ne (omega arith))
             | inr there ↦ inr there
           ]
         ]
       ] in
-      ap (add q (mul q (get_or w (p - 1) 0) (get_or x (p - 1) 0)))
-      (ap (λ (l : List ℕ). dot q l (codes_at places x)) (sym (kept w places p 0 apart.0 apart.1)) ∙ dot-at places less x
-      apart.2 left)
-      ∙ sym (dot-apart w x (p - 1))
+      cc (
+        kept w places p 0 apart.0 apart.1,
+        dot-at places less x
+            apart.2 left,
+        dot-apart w x (p - 1),
+      )
 
 -- some codes put at places
 abbrev pub put_at : List ℕ → List ℕ → List ℕ → List ℕ
@@ -111,12 +113,12 @@ put-codes : (q : ℕ) (places codes v : List ℕ) → AllByRecursion (λ x. x < 
 put-codes q [] codes v hc hv = hv
 put-codes q (p ∷ places) [] v hc hv = hv
 put-codes q (p ∷ places) (c ∷ codes) v hc hv =
-    set-codes q (put_at places codes v) (p - 1) c hc.0 (put-codes q places codes v hc.1 hv)
+    set-codes q _ _ c hc.0 (put-codes q places codes v hc.1 hv)
 
 pub put-vector : (q n : ℕ) (places codes v : List ℕ) → AllByRecursion (λ x. x < q) codes → IsVector q n v
     → IsVector q n (put_at places codes v)
 put-vector q n places codes v hc hv =
-    record { len = length-put places codes v ∙ hv.len; codes = put-codes q places codes v hc hv.codes }
+    record { len = cc (length-put places codes v); codes = put-codes q places codes v hc hv.codes }
 
 -- they are at their places
 pub put_back : (places codes v : List ℕ) → Apart places → AllByRecursion (λ p. p ≤ length v) places
@@ -125,11 +127,15 @@ put_back [] [] v apart fits long = refl
 put_back [] (c ∷ codes) v apart fits long = absurd (omega arith)
 put_back (p ∷ places) [] v apart fits long = absurd (omega arith)
 put_back (p ∷ places) (c ∷ codes) v apart fits long =
-    let before : List ℕ = put_at places codes v in
+    let before = put_at places codes v in
     let room : p - 1 < length before =
     (let a = apart.0 in let b = fits.0 in omega (arith, length-put places codes v)) in
-    ap₂ (λ (a : ℕ) (l : List ℕ). a ∷ l) (get_or-set_same before (p - 1) c 0 room)
-    (kept before places p c apart.0 apart.1 ∙ put_back places codes v apart.2 fits.1 (omega arith))
+    cc (
+      get_or-set_same before (p - 1) c 0 room,
+      kept before places p c apart.0 apart.1,
+      put_back places codes v apart.2
+          fits.1 (omega arith),
+    )
 
 zero_entry : (n i : ℕ) → get_or (zeros n) i 0 ≡ 0
 zero_entry zero i = refl
@@ -144,14 +150,14 @@ put_on (p ∷ places) (c ∷ codes) n apart i =
     elim (cases_eq i (p - 1)) [
       | inl e ↦ inr (inl (let k = apart.0 in omega arith))
       | inr ne ↦ elim (put_on places codes n apart.2 i) [
-        | inl z ↦ inl (set_else (put_at places codes (zeros n)) (p - 1) i c ne ∙ z)
+        | inl z ↦ inl (set_else (put_at places codes (zeros n)) _ i c ne ∙ z)
         | inr there ↦ inr (inr there)
       ]
     ]
 
 pub zeros_at : (places : List ℕ) (n : ℕ) → codes_at places (zeros n) ≡ zeros (length places)
 zeros_at [] n = refl
-zeros_at (p ∷ places) n = ap₂ (λ (a : ℕ) (l : List ℕ). a ∷ l) (zero_entry n (p - 1)) (zeros_at places n)
+zeros_at (p ∷ places) n = cc (zero_entry n (p - 1), zeros_at places n)
 
 -- a vector that is zero on its places is zero
 pub zero_on : (places w : List ℕ) → Supported places w → codes_at places w ≡ zeros (length places) → (i : ℕ)
@@ -167,10 +173,10 @@ zero_on places w on none i =
     at_place (p ∷ rest) here e =
         elim here [
           | inl is ↦
-              let first : get_or w (p - 1) 0 ≡ 0 = ap (λ (l : List ℕ). get_or l 0 0) e in
+              let first : get_or w (p - 1) 0 ≡ 0 = cc in
               let k : i ≡ p - 1 = omega arith in
-              ap (λ (k : ℕ). get_or w k 0) k ∙ first
-          | inr there ↦ at_place rest there (ap (λ (l : List ℕ). drop 1 l) e)
+              cc
+          | inr there ↦ at_place rest there (cc)
         ]
 
 pub same_zeros : (n : ℕ) (w : List ℕ) → length w ≡ n → ((i : ℕ) → get_or w i 0 ≡ 0) → w ≡ zeros n
@@ -178,4 +184,4 @@ same_zeros zero [] long h = refl
 same_zeros zero (a ∷ w) long h = absurd (omega arith)
 same_zeros (suc n) [] long h = absurd (omega arith)
 same_zeros (suc n) (a ∷ w) long h =
-    ap₂ (λ (a : ℕ) (l : List ℕ). a ∷ l) (h 0) (same_zeros n w (omega arith) (λ i. h (suc i)))
+    cc (h 0, same_zeros n w (omega arith) (λ i. h (suc i)))

@@ -1,7 +1,7 @@
 -- Derived levels come equally often exactly where no defining word is supported on the places.
 use Rattle.std.proofs.Common.{ℕ, ◌≡◌, ◌≢◌, ◌<◌, ◌≤◌, ◌+◌, ◌-◌, ◌↔◌, zero, suc, inl, inr, true, cond}
 use Rattle.std.proofs.Common.{eqb, List, [], ◌∷◌, ◌++◌, length, map, reverse, drop, get_or, refl, sym, subst, ◌∙◌, ap}
-use Rattle.std.proofs.Common.{ap₂, arith}
+use Rattle.std.proofs.Common.{arith}
 use Rattle.std.specs.Prelude.{AllPairs, Contains}
 use Rattle.std.specs.List.{AllByRecursion, count_by}
 use Rattle.std.proofs.lemmas.Bool.{cases_eq, cases_lt}
@@ -36,7 +36,7 @@ in_reverse p [] h = h
 in_reverse p (r ∷ places) (inl e) =
     subst (Has p) (sym (turned r places)) (has-right p (reverse places) (r ∷ []) (inl e))
 in_reverse p (r ∷ places) (inr h) =
-    subst (Has p) (sym (turned r places)) (has-left p (reverse places) (r ∷ []) (in_reverse p places h))
+    subst (Has p) (sym (turned r places)) (has-left p _ (r ∷ []) (in_reverse p places h))
 
 from_reverse : (p : ℕ) (places : List ℕ) → Has p (reverse places) → Has p places
 from_reverse p [] h = h
@@ -50,14 +50,14 @@ each_reverse : (P : ℕ → Type 0) (places : List ℕ) → AllByRecursion P pla
 each_reverse P [] h = tt
 each_reverse P (p ∷ places) h =
     subst (AllByRecursion P) (sym (turned p places))
-    (each-append P (reverse places) (p ∷ []) (each_reverse P places h.1) (h.0, tt))
+    (each-append P _ (p ∷ []) (each_reverse P places h.1) (h.0, tt))
 
 apart_after : (xs : List ℕ) (p : ℕ) → Apart xs → 1 ≤ p → AllByRecursion (λ r. (1 ≤ r) × (r ≢ p)) xs
     → Apart (xs ++ p ∷ [])
 apart_after [] p h some others = (some, tt, tt)
 apart_after (x ∷ xs) p h some others = (
   h.0,
-  each-append (λ r. (1 ≤ r) × (r ≢ x)) xs (p ∷ []) h.1 ((some, (λ e. others.0.1 (sym e))), tt),
+  each-append _ xs _ h.1 ((some, (λ e. others.0.1 (sym e))), tt),
   apart_after xs p h.2 some others.1,
 )
 
@@ -65,7 +65,7 @@ apart_reverse : (places : List ℕ) → Apart places → Apart (reverse places)
 apart_reverse [] h = tt
 apart_reverse (p ∷ places) h =
     subst Apart (sym (turned p places))
-    (apart_after (reverse places) p (apart_reverse places h.2) h.0 (each_reverse (λ r. (1 ≤ r) × (r ≢ p)) places h.1))
+    (apart_after _ p (apart_reverse places h.2) h.0 (each_reverse _ places h.1))
 
 -- places that differ, by recursion
 others_differ : (p : ℕ) (places : List ℕ) → AllPairs (λ a b. a ≢ b) (p ∷ places) → (n : ℕ)
@@ -100,10 +100,14 @@ apart_from (p ∷ places) some h = (
 codes_reverse : (places x : List ℕ) → codes_at (reverse places) x ≡ reverse (codes_at places x)
 codes_reverse [] x = refl
 codes_reverse (p ∷ places) x =
-    let c : ℕ = get_or x (p - 1) 0 in
-    ap (λ (l : List ℕ). codes_at l x) (turned p places)
-    ∙ map-append (λ p. get_or x (p - 1) 0) (reverse places) (p ∷ [])
-    ∙ ap (λ (l : List ℕ). l ++ c ∷ []) (codes_reverse places x) ∙ sym (turned c (codes_at places x))
+    let c = get_or x (p - 1) 0 in
+    cc (
+      turned p places,
+      map-append (λ p. get_or x (p - 1) 0) (reverse places) (p ∷ []),
+      codes_reverse places x,
+      turned
+          c (codes_at places x),
+    )
 
 row_vector : (q m : ℕ) (rows : List (List ℕ)) (k : ℕ) → AreVectors q m rows → k < length rows
     → IsVector q m (get_or rows k [])
@@ -127,20 +131,20 @@ module _ (q m s : ℕ) (f : IsField q) (rows : List (List ℕ)) (hr : AreVectors
   levels_there : (ps p : List ℕ) → levels_at q (rows_at ps) p ≡ codes_at ps (levels_at q rows p)
   levels_there [] p = refl
   levels_there (r ∷ ps) p =
-      ap₂ (λ (a : ℕ) (l : List ℕ). a ∷ l) (sym (get_or-map (λ r. dot q r p) rows (r - 1) [])) (levels_there ps p)
+      cc (get_or-map (λ r. dot q r p) rows (r - 1) [], levels_there ps p)
 
   level_is : (x : List ℕ) → derived_level q places x ≡ number q (codes_at back x)
-  level_is x = sym (ap (number q) (codes_reverse places x) ∙ number_reversed q (codes_at places x))
+  level_is x = cc (codes_reverse places x, number_reversed q (codes_at places x))
 
   count_is : (y : ℕ)
       → level_count q places y (runs_of q m rows) ≡ count_by (λ x. eqb (number q (drop 0 x)) y) (runs_of q m chosen)
   unfolding runs_of
   count_is y =
-      sum_by_map (λ x. cond (eqb (derived_level q places x) y) 1 0) (λ p. levels_at q rows p) (points q m)
+      sum_by_map (λ x. cond (eqb (derived_level q places x) y) 1 0) (levels_at q rows) (points q m)
       ∙ sum_by-ext _ _ (points q m)
-      (λ p. ap (λ (n : ℕ). cond (eqb n y) 1 0)
+      (λ p. ap (λ n. cond (eqb n y) 1 0)
       (level_is (levels_at q rows p) ∙ ap (number q) (sym (levels_there back p))))
-      ∙ sym (sum_by_map (λ x. cond (eqb (number q (drop 0 x)) y) 1 0) (λ p. levels_at q chosen p) (points q m))
+      ∙ sym (sum_by_map (λ x. cond (eqb (number q (drop 0 x)) y) 1 0) (levels_at q chosen) (points q m))
 
   abbrev k : ℕ
   k = length places
@@ -149,18 +153,18 @@ module _ (q m s : ℕ) (f : IsField q) (rows : List (List ℕ)) (hr : AreVectors
   long = length-map back (λ p. get_or rows (p - 1) []) ∙ length-reverse places
 
   even_from : AreBalanced q places (runs_of q m rows) → AreBlocksEven q 0 k (runs_of q m chosen)
-  even_from h y z hy hz = sym (count_is y) ∙ h y z hy hz ∙ count_is z
+  even_from h y z hy hz = cc (count_is y, h y z hy hz, count_is z)
 
   balanced_from : AreBlocksEven q 0 k (runs_of q m chosen) → AreBalanced q places (runs_of q m rows)
-  balanced_from h y z hy hz = count_is y ∙ h y z hy hz ∙ sym (count_is z)
+  balanced_from h y z hy hz = cc (count_is y, h y z hy hz, count_is z)
 
   inside_back : AllByRecursion (λ p. (1 ≤ p) × (p ≤ s)) back
-  inside_back = each_reverse (λ p. (1 ≤ p) × (p ≤ s)) places inside
+  inside_back = each_reverse _ places inside
 
   vectors_at : (ps : List ℕ) → AllByRecursion (λ p. (1 ≤ p) × (p ≤ s)) ps → AreVectors q m (rows_at ps)
   vectors_at [] h = tt
   vectors_at (p ∷ ps) h =
-      (row_vector q m rows (p - 1) hr (let a = h.0.0 in let b = h.0.1 in omega arith), vectors_at ps h.1)
+      (row_vector q m rows _ hr (let a = h.0.0 in let b = h.0.1 in omega arith), vectors_at ps h.1)
 
   chosen_vectors : AreVectors q m chosen
   chosen_vectors = vectors_at back inside_back
@@ -177,17 +181,17 @@ module _ (q m s : ℕ) (f : IsField q) (rows : List (List ℕ)) (hr : AreVectors
       ∙ dot-at q f back w (levels_at q rows p) back_apart on ∙ dot-levels q f m w rows p)
 
   some : 0 < q
-  some = omega (arith, f.more_than_one)
+  some = omega arith
 
   no_word : AreBlocksEven q 0 k (runs_of q m chosen) → (w : List ℕ) → IsVector q s w → Supported back w
       → (w ≡ zeros s → ⊥) → combination q m w rows ≡ zeros m → ⊥
   no_word even w hw on nonzero e =
-      let b : List ℕ = codes_at back w in
-      let wide : length b ≡ k = length-map back (λ p. get_or w (p - 1) 0) ∙ length-reverse places in
+      let b = codes_at back w in
+      let wide = length-map back (λ p. get_or w (p - 1) 0) ∙ length-reverse places in
       let hb : IsVector q k b = record { len = wide; codes = codes_low q w back some hw.codes } in
       uneven q m 0 k f chosen long chosen_vectors even b hb
-      (λ z. nonzero (same_zeros s w hw.len (zero_on back w on (z ∙ ap zeros (sym (length-reverse places))))))
-      (same_sum w on ∙ e)
+      (λ z. nonzero (same_zeros s w hw.len (zero_on back w on (cc (length-reverse places)))))
+      (cc (same_sum w on))
 
   independent :
       ((w : List ℕ) → IsVector q s w → Supported back w → (w ≡ zeros s → ⊥) → combination q m w rows ≡ zeros m → ⊥)
@@ -213,14 +217,14 @@ module _ (q m s : ℕ) (f : IsField q) (rows : List (List ℕ)) (hr : AreVectors
       elim (cases_eq (get_or w i 0) 0) [
         | inl z ↦ inl z
         | inr ne ↦ elim (cases_lt i s) [
-          | inl low ↦ (let c = h i low ne in inr (in_reverse (i + 1) places (contains-has places c.0 (i + 1) c.1 c.2)))
-          | inr high ↦ inl (get_or-eq_default w 0 (omega (arith, hw.len)))
+          | inl low ↦ (let c = h i low ne in inr (in_reverse _ places (contains-has places c.0 _ c.1 c.2)))
+          | inr high ↦ inl (get_or-eq_default w 0 (omega arith))
         ]
       ]
 
   from_back : (w : List ℕ) → Supported back w → (i : ℕ) → i < s → get_or w i 0 ≢ 0 → Contains places (i + 1)
   from_back w on i low ne =
-      elim (on i) [ inl z ↦ absurd (ne z) | inr h ↦ has-contains places (i + 1) (from_reverse (i + 1) places h) ]
+      elim (on i) [ inl z ↦ absurd (ne z) | inr h ↦ has-contains places _ (from_reverse _ places h) ]
 
   abbrev NoWord : Type 0
   NoWord = (word : List ℕ) → IsWordOn q s (runs_of q m rows) places word → ⊥
@@ -228,8 +232,8 @@ module _ (q m s : ℕ) (f : IsField q) (rows : List (List ℕ)) (hr : AreVectors
   pub words_tell : are_levels_balanced q places (runs_of q m rows) ≡ true ↔ NoWord
   words_tell = (
     λ e word w.
-        let even = even_from ((levels_decide q places (runs_of q m rows)).0 e) in
-        no_word even word w.vector (on_back word w.vector w.supported) w.not_zero
+        no_word (even_from ((levels_decide q places (runs_of q m rows)).0 e)) word w.vector
+        (on_back word w.vector w.supported) w.not_zero
         (constant_zero q m f rows word hr ((constant_decides q f word (runs_of q m rows)).0 w.constant)),
     λ none.
         let free = independent (λ w hw on nonzero e. none w (record {

@@ -1,9 +1,9 @@
 -- Lists without the effects of others.
 use Rattle.std.proofs.Common.{◌≡◌, ◌≤◌, ℕ, Bool, true, false, not, cond, eqb, List, [], ◌∷◌, length, filter, refl, sym}
-use Rattle.std.proofs.Common.{subst, suc, arith}
+use Rattle.std.proofs.Common.{suc, arith}
 use Rattle.std.specs.List.{list_all, list_any}
 use Rattle.std.proofs.lemmas.Bool.{and_from}
-use Rattle.fx_vectors.specs.Effects.{are_in_order, pair_count}
+use Rattle.fx_vectors.specs.Effects.{pair_count}
 use Rattle.fx_demands.specs.declared.unions.TheConstants.{MOST_EFFECTS}
 use Rattle.fx_demands.specs.Bars.{AreOrdered}
 use Rattle.fx_demands.proofs.Ordered.{Sorted, ordered-sorted}
@@ -35,7 +35,7 @@ module _ (p : ℕ → Bool) where
       let rest = all-filter xs in
       let go : (b : Bool) → b ≡ p x → list_all p (cond b (x ∷ filter p xs) (filter p xs)) ≡ true =
       λ b. elim b as (λ b. b ≡ p x → list_all p (cond b (x ∷ filter p xs) (filter p xs)) ≡ true)
-      [ true ↦ λ is. and_from (p x) (list_all p (filter p xs)) (sym is) rest | false ↦ λ is. rest ] in
+      [ true ↦ λ is. and_from _ _ (sym is) rest | false ↦ λ is. rest ] in
       go (p x) refl
 
 -- what is left of the others
@@ -48,11 +48,10 @@ are_apart q estimate others left he ho is few short short_others =
     record {
       estimate = sorted-in_order estimate (ordered-sorted estimate he);
       nonnegligible =
-          subst (λ (l : List ℕ). are_in_order l ≡ true) (sym is)
-          (sorted-in_order (filter p others) (sorted-filter p others (ordered-sorted others ho)));
-      apart = subst (λ (l : List ℕ). list_all p l ≡ true) (sym is) (all-filter p others);
+          rw is (sorted-in_order _ (sorted-filter p others (ordered-sorted others ho)));
+      apart = rw is (all-filter p others);
       pairs = few;
       few_estimate = short;
       few_nonnegligible =
-          subst (λ (l : List ℕ). length l ≤ MOST_EFFECTS) (sym is) (omega (arith, filter-short p others, short_others));
+          rw is (omega (arith, filter-short p others));
     }

@@ -1,6 +1,5 @@
 -- The main effects of a range, one by one, and the numbers of its names.
-use Rattle.std.proofs.Common.{◌≡◌, ℕ, ◌^◌, ◌+◌, ◌<◌, ◌≤◌, true, List, [], ◌∷◌, ◌++◌, drop, length, Result, Ok, Err}
-use Rattle.std.proofs.Common.{refl, ap, ◌∙◌}
+use Rattle.std.proofs.Common.{◌≡◌, ℕ, ◌^◌, ◌+◌, ◌<◌, ◌≤◌, true, List, [], ◌∷◌, ◌++◌, drop, Result, Ok, Err}
 use Rattle.std.specs.Prelude.{decimal}
 use Rattle.std.proofs.lemmas.Bool.{leb-true, and_parts}
 use Rattle.std.proofs.lemmas.List.{drop_all}
@@ -24,24 +23,24 @@ module _ (w : Written) (factors : List (List ℕ)) (mains : List ℕ) (stem : Li
 
   next : i < count
       → mains_from w factors mains (left i) ≡ main_of w (place_of (stem ++ decimal (from + i)) factors) >>= rest
-  next h = ap (mains_from w factors mains) (from_here stem from count i h)
+  next h = cc (from_here stem from count i h)
 
   pub one_more : i < count → (e : ℕ) → main_of w (place_of (stem ++ decimal (from + i)) factors) ≡ Ok e
       → mains_from w factors mains (left i) ≡ rest e
-  one_more h e is = next h ∙ ap (λ r. r >>= rest) is
+  one_more h e is = cc (next h)
 
   pub not_one : i < count → (refusal : Refusal)
       → main_of w (place_of (stem ++ decimal (from + i)) factors) ≡ Err refusal
       → mains_from w factors mains (left i) ≡ Err refusal
-  not_one h refusal is = next h ∙ ap (λ r. r >>= rest) is
+  not_one h refusal is = cc (next h)
 
   pub none_left : count ≤ i → mains_from w factors mains (left i) ≡ Ok mains
-  none_left h = ap (mains_from w factors mains) (drop_all i (numbered stem from count) (rw length-map-range_with_len h))
+  none_left h = cc (drop_all i (numbered stem from count) (rw length-map-range_with_len h))
 
 pub whole : (factors : List (List ℕ)) (first last : Written) (mains : List ℕ) → is_range first.text last.text ≡ true
     → mains_from first factors [] (names_between first.text last.text) ≡ Ok mains
     → range_at factors first last ≡ Ok (expression mains 1)
-whole factors first last mains range is = rw (range, is) refl
+whole factors first last mains range is = rw (range, is)
 
 -- a number at the end of a name has at most 38 digits
 pub number_is_short : (name : List ℕ) → is_plain (digits_at_end name) ≡ true → number_at_end name < 10 ^ 38
@@ -50,4 +49,4 @@ number_is_short name plain =
     let b = and_parts _ _ a.0 in
     let c = and_parts _ _ b.0 in
     is_below (digits_at_end name)
-    (c.0, leb-true 1 (length (digits_at_end name)) c.1, leb-true (length (digits_at_end name)) 38 b.1)
+    (c.0, leb-true 1 _ c.1, leb-true _ 38 b.1)

@@ -1,5 +1,5 @@
 -- Stars are numbers of 64 bits.
-use Rattle.std.proofs.Common.{◌≡◌, ◌<◌, ◌^◌, ◌++◌, ◌∷◌, [], ℕ, List, sym, subst}
+use Rattle.std.proofs.Common.{◌≡◌, ◌<◌, ◌^◌, ◌++◌, ◌∷◌, [], List, sym, subst}
 use Rattle.fx_base.proofs.Lists.{each-append}
 use Rattle.fx_vectors.specs.declared.effect.Effect.{Effect}
 use Rattle.fx_vectors.specs.Effects.{numbers_of}
@@ -10,4 +10,4 @@ pub pushed : (all new : List Effect) (e : Effect) → AreNumbers (numbers_of all
     → AreNumbers (numbers_of new)
 pushed all new e numbers small is =
     subst AreNumbers (sym (numbers-push all new e is))
-    (each-append (λ (n : ℕ). n < 2 ^ 64) (numbers_of all) (e.0 ∷ []) numbers (small, tt))
+    (each-append _ _ (e.0 ∷ []) numbers (small, tt))

@@ -7,9 +7,8 @@ use Rattle.fx_language.specs.Symbols.{is, is_word}
 use Rattle.fx_vectors.specs.Effects.{pair_count}
 use Rattle.fx_text.specs.Written.{Written}
 use Rattle.fx_text.specs.Names.{place_of}
-use Rattle.fx_text.specs.Numbers.{number_of}
 use Rattle.fx_text.specs.Phrases.{after, preceding}
-use Rattle.fx_text.specs.Ranges.{is_range, names_between, range_end}
+use Rattle.fx_text.specs.Ranges.{is_range, names_between}
 use Rattle.fx_effects.specs.Factors.{main_of, mains_from}
 use Rattle.fx_effects.specs.Expressions.{Expression, Reading, stars_of, read, all_read, stars_len, at_most, upto_of}
 use Rattle.fx_effects.specs.Expressions.{bars_at, range_at, by_last, expression_at, is_joining, begins_effect}
@@ -47,7 +46,7 @@ module _ (P : ℕ → ℕ → Type 0) where
 
   upto : (stars : List ℕ) (w : Option Written) → IfSome w (IsPlaced P) → Placed P (upto_of stars w)
   upto stars None h = tt
-  upto stars (Some w) h = of_number (number_of w)
+  upto stars (Some w) h = of_number _
     where
       of_number : (n : Option ℕ) → Placed P (at_most stars w n)
       of_number None = placed.written P 29 w refl h
@@ -72,7 +71,7 @@ module _ (P : ℕ → ℕ → Type 0) where
 
   one : (factors : List (List ℕ)) (first : Written) (rest : List Written) → IsPlaced P first → ArePlaced P rest
       → Placed P (expression_at factors first rest)
-  one factors first rest f h = of_last (range_end rest)
+  one factors first rest f h = of_last _
     where
       of_last : (last : Option Written) → Placed P (by_last factors first rest last)
       of_last None = bars factors first rest f h
@@ -85,7 +84,7 @@ module _ (P : ℕ → ℕ → Type 0) where
       placed.both P (begins_effect joined w) _ _
       (placed.chain P (expression_at factors w (take (effect_len false rest) rest))
       (λ e. expressions_from factors (found ++ e ∷ []) (is_joining w.symbol) rest)
-      (one factors w (take (effect_len false rest) rest) h.0 (placed.taken P (effect_len false rest) rest h.1))
+      (one factors w _ h.0 (placed.taken P (effect_len false rest) rest h.1))
       (λ e. all factors (found ++ e ∷ []) (is_joining w.symbol) rest h.1))
       (all factors found (is_joining w.symbol) rest h.1)
 
@@ -116,7 +115,7 @@ module _ (P : ℕ → ℕ → Type 0) where
 
   pub lists : (q : ℕ) (factors : List (List ℕ)) (s : List Written) → P 1 1 → ArePlaced P s
       → Placed P (lists_of q factors s)
-  lists q factors s front h = of_word (slice_get s 1) (placed.at P 1 s h)
+  lists q factors s front h = of_word _ (placed.at P 1 s h)
     where
       list : List Written
       list = drop 4 s
@@ -134,7 +133,7 @@ module _ (P : ℕ → ℕ → Type 0) where
       of_word None k = placed.here P 2 (record { line = 1; column = 1 }) refl front
       of_word (Some w) k =
           two q factors w (preceding symbol.Close list) (first_or w rest)
-          (preceding symbol.Close (drop 3 rest)) k
+          _ k
           (placed.before_it P symbol.Close list in_list)
           (or_first w rest k in_rest)
           (placed.before_it P symbol.Close (drop 3 rest) (placed.dropped P 3 rest in_rest))

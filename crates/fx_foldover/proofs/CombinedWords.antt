@@ -1,6 +1,6 @@
 -- The combined words are the words of the rows with one run index more.
-use Rattle.std.proofs.Common.{ℕ, ◌≡◌, ◌<◌, ◌+◌, ◌-◌, ◌/◌, ◌%◌, ◌&&◌, zero, suc, eqb, List, [], ◌∷◌, ◌++◌, length, map}
-use Rattle.std.proofs.Common.{take, get_or, refl, sym, ◌∙◌, ap, ap₂, arith, add-one}
+use Rattle.std.proofs.Common.{ℕ, ◌≡◌, ◌<◌, ◌+◌, ◌-◌, ◌/◌, ◌%◌, ◌&&◌, zero, suc, eqb, List, [], ◌∷◌, ◌++◌, length}
+use Rattle.std.proofs.Common.{take, get_or, refl, sym, ◌∙◌, ap, arith, add-one}
 use Rattle.std.specs.List.{count_by, range_with_len}
 use Rattle.std.proofs.lemmas.List.{take_all, take_more}
 use Rattle.std.proofs.lemmas.List.FromFn.{get_or-map-range_with_len, length-map-range_with_len}
@@ -25,21 +25,21 @@ row_digits m f r =
     let low = fold_code-below f in
     let first : combined_row f r % 2 ≡ fold_code f = omega arith in
     let rest : combined_row f r / 2 ≡ r = omega arith in
-    ap₂ (λ a b. a ∷ digits 2 m b) first rest
+    cc
 
 pub combined_rows-vectors : (m : ℕ) (fold rows : List ℕ)
     → vectors_of 2 (suc m) (combined_rows fold rows) ≡ combined_rules fold (vectors_of 2 m rows)
 combined_rows-vectors m [] rows = refl
 combined_rows-vectors m (f ∷ fold) [] = refl
 combined_rows-vectors m (f ∷ fold) (r ∷ rows) =
-    ap₂ (λ v vs. v ∷ vs) (row_digits m f r) (combined_rows-vectors m fold rows)
+    cc (row_digits m f r, combined_rows-vectors m fold rows)
 
 pub length-combined_rows : (fold rows : List ℕ) → length fold ≡ length rows
     → length (combined_rows fold rows) ≡ length rows
 length-combined_rows [] [] e = refl
 length-combined_rows [] (r ∷ rows) e = absurd (omega arith)
 length-combined_rows (f ∷ fold) [] e = absurd (omega arith)
-length-combined_rows (f ∷ fold) (r ∷ rows) e = ap (λ n. suc n) (length-combined_rows fold rows (omega arith))
+length-combined_rows (f ∷ fold) (r ∷ rows) e = cc (length-combined_rows fold rows (omega arith))
 
 module _ (m : ℕ) (fold : List ℕ) (rules : List (List ℕ)) (k : ℕ) (e : length fold ≡ length rules) where
   abbrev runs : List (List ℕ)
@@ -58,19 +58,20 @@ pub words_of_rows : (m : ℕ) (fold rows : List ℕ) (k : ℕ) → length fold �
     → combined_words m fold (vectors_of 2 m rows) k
     ≡ constant_words 2 (m + 1) (vectors_of 2 (m + 1) (combined_rows fold rows)) k
 words_of_rows m fold rows k e =
-    words_of_rules m fold (vectors_of 2 m rows) k (e ∙ sym (length-vectors 2 m rows))
-    ∙ ap (λ vs. constant_words 2 (suc m) vs k) (sym (combined_rows-vectors m fold rows))
-    ∙ ap (λ n. constant_words 2 n (vectors_of 2 n (combined_rows fold rows)) k) (sym (add-one m))
+    cc (words_of_rules m fold _ k (e ∙ sym (length-vectors 2 m rows)), combined_rows-vectors m fold rows, add-one m)
 
 -- B_k is the count at the sum zero
 pub words-counted : (m : ℕ) (fold rows : List ℕ) (k : ℕ) → length fold ≡ length rows
     → combined_words m fold (vectors_of 2 m rows) k
     ≡ spread 2 (m + 1) (vectors_of 2 (m + 1) (combined_rows fold rows)) k 0
 words-counted m fold rows k e =
-    let vectors : List (List ℕ) = vectors_of 2 (m + 1) (combined_rows fold rows) in
-    words_of_rows m fold rows k e
-    ∙ constant-words 2 (m + 1) two vectors (rows-vectors 2 (m + 1) two (combined_rows fold rows)) k
-    ∙ words-spread 2 (m + 1) vectors k
+    let vectors = vectors_of 2 (m + 1) (combined_rows fold rows) in
+    cc (
+      words_of_rows m fold rows k e,
+      constant-words 2 _ two vectors
+          (rows-vectors 2 (m + 1) two (combined_rows fold rows)) k,
+      words-spread 2 (m + 1) vectors k,
+    )
 
 module _ (m : ℕ) (fold rows : List ℕ) (e : length fold ≡ length rows) where
   abbrev word_count : ℕ → ℕ
@@ -79,26 +80,29 @@ module _ (m : ℕ) (fold rows : List ℕ) (e : length fold ≡ length rows) wher
 
   words_at : (k : ℕ) → combined_words m fold (vectors_of 2 m rows) k ≡ word_count k
   words_at k =
-      let whole : take (length rows) (combined_rows fold rows) ≡ combined_rows fold rows =
-      take_all (length rows) (combined_rows fold rows) (omega (arith, length-combined_rows fold rows e)) in
       let one : word_count k
       ≡ constant_words 2 (m + 1) (vectors_of 2 (m + 1) (take (length rows) (combined_rows fold rows))) k =
       omega arith in
-      words_of_rows m fold rows k e
-      ∙ ap (λ v. constant_words 2 (m + 1) (vectors_of 2 (m + 1) v) k) (sym whole) ∙ sym one
+      cc (
+        words_of_rows m fold rows k e,
+        (take_all (length rows) (combined_rows fold rows) (omega (arith, length-combined_rows fold rows e))),
+      )
 
   -- the pattern is that of these rows
   pub pattern_of_rows : combined_pattern m fold (vectors_of 2 m rows)
       ≡ pattern_of (two_levels (m + 1) (length rows)) (combined_rows fold rows)
   unfolding combined_pattern pattern_of
   pattern_of_rows =
-      ap (λ n. map (combined_words m fold (vectors_of 2 m rows)) (range_with_len 1 n)) (length-vectors 2 m rows)
-      ∙ map_agree (combined_words m fold (vectors_of 2 m rows)) word_count words_at (range_with_len 1 (length rows))
+      cc (
+        length-vectors 2 m rows,
+        map_agree (combined_words m fold (vectors_of 2 m rows)) word_count words_at
+            (range_with_len 1 (length rows)),
+      )
 
 pub length-pattern : (m : ℕ) (fold : List ℕ) (rules : List (List ℕ))
     → length (combined_pattern m fold rules) ≡ length rules
 unfolding combined_pattern
-length-pattern m fold rules = length-map-range_with_len (combined_words m fold rules) 1 (length rules)
+length-pattern m fold rules = length-map-range_with_len _ 1 _
 
 -- one entry more
 pub pattern-more : (m : ℕ) (fold rows : List ℕ) (i : ℕ) → length fold ≡ length rows → i < length rows
@@ -107,13 +111,16 @@ pub pattern-more : (m : ℕ) (fold rows : List ℕ) (i : ℕ) → length fold �
     ++ spread 2 (m + 1) (vectors_of 2 (m + 1) (combined_rows fold rows)) (i + 1) 0 ∷ []
 unfolding combined_pattern
 pattern-more m fold rows i e low =
-    let vectors : List (List ℕ) = vectors_of 2 m rows in
-    let whole : List ℕ = combined_pattern m fold vectors in
+    let vectors = vectors_of 2 m rows in
+    let whole = combined_pattern m fold vectors in
     let count = length-vectors 2 m rows in
-    take_more whole i 0 (omega (arith, length-pattern m fold vectors, count))
-    ∙ ap (λ a. take i whole ++ a ∷ [])
-    (get_or-map-range_with_len (combined_words m fold vectors) 1 (length vectors) i (i + 1) 0 (omega (arith, count))
-    (omega arith) ∙ words-counted m fold rows (i + 1) e)
+    cc (
+      take_more whole i 0 (omega (arith, length-pattern m fold vectors)),
+      get_or-map-range_with_len
+          (combined_words m fold vectors) 1 (length vectors) i (i + 1) 0 (omega arith)
+          (omega arith),
+      words-counted m fold rows (i + 1) e,
+    )
 
 -- the row at i
 row-at : (fold rows : List ℕ) (i : ℕ) → length fold ≡ length rows → i < length rows
@@ -128,5 +135,8 @@ pub rows-more : (fold rows : List ℕ) (i : ℕ) → length fold ≡ length rows
     → take i (combined_rows fold rows) ++ combined_row (get_or fold i 0) (get_or rows i 0) ∷ []
     ≡ take (i + 1) (combined_rows fold rows)
 rows-more fold rows i e low =
-    ap (λ r. take i (combined_rows fold rows) ++ r ∷ []) (sym (row-at fold rows i e low))
-    ∙ sym (take_more (combined_rows fold rows) i 0 (omega (arith, length-combined_rows fold rows e)))
+    cc (
+      row-at fold rows i e low,
+      take_more (combined_rows fold rows) i 0
+          (omega (arith, length-combined_rows fold rows e)),
+    )

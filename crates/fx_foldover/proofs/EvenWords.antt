@@ -42,33 +42,31 @@ module _ (m : ℕ) (fold : List ℕ) (rules : List (List ℕ)) (e : length fold 
   over_rules : is_constant 2 u (runs_of 2 (suc m) (combined_rules fold rules))
       ≡ (is_constant 2 u (runs_of 2 m rules) && eqb (count % 2) 0)
   over_rules =
-      let more = combined_rules-vectors m fold rules hr in
-      let combined = zero_sum_decides 2 (suc m) two (combined_rules fold rules) more u in
+      let combined = zero_sum_decides 2 _ two _ (combined_rules-vectors m fold rules hr) u in
       let first = zero_sum_decides 2 m two rules hr u in
       let is = combined_rules-sum m fold rules u e hu in
       bool_same _ _
       (λ t.
-      let zero_is : ((count % 2) ∷ sum) ≡ 0 ∷ zeros m = sym is ∙ combined.0 t in
+      let zero_is = sym is ∙ combined.0 t in
       and_from _ _ (first.1 (ap tail_of zero_is)) (eq-eqb _ _ (ap head_of zero_is)))
       (λ t.
       let parts = and_parts _ _ t in
-      combined.1 (is ∙ ap₂ (λ (a : ℕ) (v : List ℕ). a ∷ v) (eqb-true _ _ parts.1) (first.0 parts.0)))
+      combined.1 (is ∙ ap₂ (λ a v. a ∷ v) (eqb-true _ _ parts.1) (first.0 parts.0)))
 
   pub even-words : is_constant 2 u (combined_plan fold (runs_of 2 m rules))
       ≡ (is_constant 2 u (runs_of 2 m rules) && eqb (count % 2) 0)
-  even-words = ap (is_constant 2 u) (sym (combined-runs m fold rules e)) ∙ over_rules
+  even-words = cc (combined-runs m fold rules e, over_rules)
 
   pub other-words : is_constant 2 u (combined_plan fold (runs_of 2 m rules)) ≡ false
       → is_balanced 2 u (combined_plan fold (runs_of 2 m rules)) ≡ true
   other-words none =
-      let runs : List (List ℕ) = runs_of 2 (suc m) (combined_rules fold rules) in
+      let runs = runs_of 2 (suc m) (combined_rules fold rules) in
       let is = combined-runs m fold rules e in
       let more = combined_rules-vectors m fold rules hr in
-      let combined = zero_sum_decides 2 (suc m) two (combined_rules fold rules) more u in
+      let combined = zero_sum_decides 2 _ two _ more u in
       let some : combination 2 (suc m) u (combined_rules fold rules) ≡ zeros (suc m) → ⊥ =
-      λ z. both_ways (is_constant 2 u runs) (ap (is_constant 2 u) is ∙ none) (combined.1 z) in
-      ap (is_balanced 2 u) (sym is)
-      ∙ (balanced_decides 2 u runs).1 (other_balanced 2 (suc m) two (combined_rules fold rules) u more some)
+      λ z. both_ways _ (ap (is_constant 2 u) is ∙ none) (combined.1 z) in
+      cc ((balanced_decides 2 u runs).1 (other_balanced 2 _ two _ u more some))
 
 -- where all factors are folded, a word has as many folded factors as its weight
 full-count : (fold u : List ℕ) → AllByRecursion (λ f. 0 < f) fold → length fold ≡ length u
@@ -77,17 +75,15 @@ full-count [] [] h e = refl
 full-count [] (a ∷ u) h e = absurd (omega arith)
 full-count (f ∷ fold) [] h e = absurd (omega arith)
 full-count (f ∷ fold) (a ∷ u) h e =
-    let rest = full-count fold u h.1 (omega arith) in
-    let more = sum_by-cons (λ c. cond (nat_lt 0 c) 1 0) a u in
     let same : ◌≡◌ {A = ℕ} (cond (eqb f 0 || eqb a 0) 0 1) (cond (nat_lt 0 a) 1 0) =
-    ap (λ b. cond (b || eqb a 0) 0 1) (ne_eqb f 0 (λ z. (let some = h.0 in omega arith))) ∙ counted a in
-    ap (λ n. n + folded_count fold u) same ∙ ap (λ n. cond (nat_lt 0 a) 1 0 + n) rest ∙ sym more
+    cc (ne_eqb f 0 (λ z. (let some = h.0 in omega arith)), counted a) in
+    cc ((full-count fold u h.1 (omega arith)), (sum_by-cons (λ c. cond (nat_lt 0 c) 1 0) a u))
   where
     counted : (a : ℕ) → ◌≡◌ {A = ℕ} (cond (eqb a 0) 0 1) (cond (nat_lt 0 a) 1 0)
     counted zero = refl
     counted (suc a) =
-        cond-false (eqb (suc a) 0) 0 1 (ne_eqb (suc a) 0 (λ z. omega arith))
-        ∙ sym (cond-true (nat_lt 0 (suc a)) 1 0 (lt-ltb 0 (suc a) (omega arith)))
+        cond-false _ 0 1 (ne_eqb (suc a) 0 (λ z. omega arith))
+        ∙ sym (cond-true _ 1 0 (lt-ltb 0 (suc a) (omega arith)))
 
 module _ (m : ℕ) (fold : List ℕ) (rules : List (List ℕ)) (e : length fold ≡ length rules) (hr : AreVectors 2 m rules)
     (full : AllByRecursion (λ f. 0 < f) fold) where
@@ -96,7 +92,7 @@ module _ (m : ℕ) (fold : List ℕ) (rules : List (List ℕ)) (e : length fold 
   no-odd_word u hu odd =
       let same = full-count fold u full (let l = hu.len in omega arith) in
       even-words m fold rules e hr u hu
-      ∙ and_right (is_constant 2 u (runs_of 2 m rules)) _ (ne_eqb _ 0 (λ z. omega (arith, same, odd, z)))
+      ∙ and_right (is_constant 2 u (runs_of 2 m rules)) _ (ne_eqb _ 0 (λ z. omega arith))
 
   abbrev plan : List (List ℕ)
   plan = combined_plan fold (runs_of 2 m rules)
@@ -104,17 +100,17 @@ module _ (m : ℕ) (fold : List ℕ) (rules : List (List ℕ)) (e : length fold 
   no-odd_words : (k : ℕ) → ◌≡◌ {A = ℕ} (k % 2) 1 → ◌≡◌ {A = ℕ} (combined_words m fold rules k) 0
   unfolding combined_words
   no-odd_words k odd =
-      let n : ℕ = length rules in
+      let n = length rules in
       let test : List ℕ → ℕ = λ u. cond (eqb (weight u) k && is_constant 2 u plan) 1 0 in
       sum_by-each test (λ u. 0) (points 2 n)
-      (recursion_from_All _ (points 2 n) (all-points 2 n (omega arith) (λ u. test u ≡ 0) (λ u hu. none u hu)))
+      (recursion_from_All _ _ (all-points 2 n (omega arith) (λ u. test u ≡ 0) (λ u hu. none u hu)))
       ∙ sum_by-zero (points 2 n)
     where
       none : (u : List ℕ) → IsVector 2 (length rules) u
           → ◌≡◌ {A = ℕ} (cond (eqb (weight u) k && is_constant 2 u plan) 1 0) 0
       none u hu = elim (cases_eq (weight u) k) [
-        | inl is ↦ cond-false _ 1 0 (and_right _ _ (no-odd_word u hu (ap (λ n. n % 2) is ∙ odd)))
-        | inr other ↦ ap (λ b. cond (b && is_constant 2 u plan) 1 0) (ne_eqb (weight u) k other)
+        | inl is ↦ cond-false _ 1 0 (and_right _ _ (no-odd_word u hu (cc)))
+        | inr other ↦ cc (ne_eqb _ k other)
       ]
 
   pub no-odd_entry : (k : ℕ) → ◌≡◌ {A = ℕ} (k % 2) 0
@@ -122,8 +118,8 @@ module _ (m : ℕ) (fold : List ℕ) (rules : List (List ℕ)) (e : length fold 
   unfolding combined_pattern
   no-odd_entry k even = elim (cases_lt k (length rules)) [
     | inl low ↦
-        get_or-map-range_with_len (combined_words m fold rules) 1 (length rules) k (k + 1) 0 low (omega arith)
+        get_or-map-range_with_len (combined_words m fold rules) 1 _ k (k + 1) 0 low (omega arith)
         ∙ no-odd_words (k + 1) (omega arith)
-    | inr past ↦ get_or_past (combined_pattern m fold rules) k 0
+    | inr past ↦ get_or_past _ k 0
         (omega (arith, length-map-range_with_len (combined_words m fold rules) 1 (length rules)))
   ]

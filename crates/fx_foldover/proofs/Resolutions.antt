@@ -1,6 +1,6 @@
 -- A fold-over adds no words, so that the resolution is not lower.
 use Rattle.std.proofs.Common.{ℕ, ◌≡◌, ◌≤◌, ◌+◌, ◌-◌, ◌/◌, ◌%◌, ◌&&◌, Bool, true, false, cond, eqb, List, length, take}
-use Rattle.std.proofs.Common.{slice_index, sym, subst, ◌∙◌, ap, arith, inl, inr}
+use Rattle.std.proofs.Common.{slice_index, sym, ◌∙◌, arith, inl, inr}
 use Rattle.std.proofs.lemmas.Bool.{cases_lt}
 use Rattle.std.proofs.lemmas.List.{get_or_past, take_all}
 use Rattle.std.proofs.lemmas.List.Elements.{recursion_from_All}
@@ -35,23 +35,22 @@ module _ (m : ℕ) (fold : List ℕ) (rules : List (List ℕ)) (k : ℕ) (e : le
   each : (u : List ℕ) → IsVector 2 (length rules) u
       → counted (combined_plan fold (runs_of 2 m rules)) u ≤ counted (runs_of 2 m rules) u
   each u hu =
-      subst (λ (b : Bool). cond (eqb (weight u) k && b) 1 0 ≤ counted (runs_of 2 m rules) u)
-      (sym (even-words m fold rules e hr u hu))
+      rw (even-words m fold rules e hr u hu)
       (fewer (eqb (weight u) k) (is_constant 2 u (runs_of 2 m rules)) (eqb (folded_count fold u % 2) 0))
 
   no-more : combined_words m fold rules k ≤ constant_words 2 m rules k
   unfolding combined_words constant_words
   no-more =
-      let all : List (List ℕ) = points 2 (length rules) in
-      let combined : List ℕ → ℕ = counted (combined_plan fold (runs_of 2 m rules)) in
-      let first : List ℕ → ℕ = counted (runs_of 2 m rules) in
+      let all = points 2 (length rules) in
+      let combined = counted (combined_plan fold (runs_of 2 m rules)) in
+      let first = counted (runs_of 2 m rules) in
       sum_by-le combined first all
-      (recursion_from_All _ all (all-points 2 (length rules) (omega arith) (λ u. combined u ≤ first u) each))
+      (recursion_from_All _ all (all-points 2 _ (omega arith) (λ u. combined u ≤ first u) each))
 
 pub no-more_words : (m : ℕ) (rows fold : List ℕ) (k : ℕ) → length fold ≡ length rows
     → combined_words m fold (vectors_of 2 m rows) k ≤ constant_words 2 m (vectors_of 2 m rows) k
 no-more_words m rows fold k e =
-    no-more m fold (vectors_of 2 m rows) k (e ∙ sym (length-vectors 2 m rows)) (rows-vectors 2 m two rows)
+    no-more m fold _ k (e ∙ sym (length-vectors 2 m rows)) (rows-vectors 2 m two rows)
 
 module _ (m : ℕ) (rows fold : List ℕ) (e : length fold ≡ length rows) where
   abbrev first : List ℕ
@@ -66,24 +65,23 @@ module _ (m : ℕ) (rows fold : List ℕ) (e : length fold ≡ length rows) wher
   entries k = elim (cases_lt k (length rows)) [
     | inl low ↦
         let there = length-vectors 2 m rows in
-        let whole : take (length rows) rows ≡ rows = take_all (length rows) rows (omega arith) in
         let ours = get_or-map-range_with_len (combined_words m fold (vectors_of 2 m rows)) 1
-        (length (vectors_of 2 m rows)) k (k + 1) 0 (omega (arith, there)) (omega arith) in
+        (length (vectors_of 2 m rows)) k (k + 1) 0 (omega arith) (omega arith) in
         let theirs = get_or-map-range_with_len
-        (λ k. constant_words 2 m (vectors_of 2 m (take (length rows) rows)) k / (2 - 1)) 1 (length rows) k (k + 1) 0 low
+        (λ k. constant_words 2 m (vectors_of 2 m (take (length rows) rows)) k / (2 - 1)) 1 _ k (k + 1) 0 low
         (omega arith) in
         let same : constant_words 2 m (vectors_of 2 m (take (length rows) rows)) (k + 1)
         ≡ constant_words 2 m (vectors_of 2 m rows) (k + 1) =
-        ap (λ v. constant_words 2 m (vectors_of 2 m v) (k + 1)) whole in
+        cc (take_all (length rows) rows (omega arith)) in
         let few = no-more_words m rows fold (k + 1) e in
-        omega (arith, ours, theirs, same, few)
+        omega arith
     | inr past ↦
         let none = get_or_past combined k 0 (omega (
           arith,
           length-pattern m fold (vectors_of 2 m rows),
           length-vectors 2 m rows,
         )) in
-        omega (arith, none)
+        omega arith
   ]
 
   pub not-lower : resolution_of first ≤ resolution_of combined
@@ -93,7 +91,7 @@ module _ (m : ℕ) (rows fold : List ℕ) (e : length fold ≡ length rows) wher
       let count = length-vectors 2 m rows in
       let theirs = pattern-length (two_levels m (length rows)) rows in
       elim (none-before combined (resolution_of first)
-      (λ k low. (let none = before-resolution first k low in let few = entries k in omega (arith, none, few)))) [
+      (λ k low. (let none = before-resolution first k low in let few = entries k in omega arith))) [
         | inl not_lower ↦ not_lower
-        | inr highest ↦ omega (arith, most, ours, count, theirs, highest)
+        | inr highest ↦ omega arith
       ]

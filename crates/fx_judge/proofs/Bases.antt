@@ -1,7 +1,7 @@
 -- A basis of differences: for each factor a direction, which is zero where the factor is not basic. Its columns are the
 -- rules.
 use Rattle.std.proofs.Common.{ℕ, zero, suc, ◌≡◌, ◌<◌, ◌⊎◌, Bool, true, false, ◌&&◌, eqb, List, [], ◌∷◌, length}
-use Rattle.std.proofs.Common.{get_or, Some, None, refl, sym, ◌∙◌, ap, ap₂, arith, inl, inr}
+use Rattle.std.proofs.Common.{get_or, Some, None, refl, sym, ◌∙◌, ap, arith, inl, inr}
 use Rattle.std.specs.Prelude.{find}
 use Rattle.std.specs.List.{All, list_any}
 use Rattle.std.proofs.lemmas.Bool.{cases_Bool, cases_lt, eq-eqb, eqb-true, and_parts, and_from, false_from_ne_true}
@@ -47,7 +47,7 @@ find_one p [] u e each = cc e
 find_one p (x ∷ xs) u e each =
     elim (cases_Bool (p x)) [
       | inl t ↦ cc (cond-true (p x) (Some x) (find p xs) t, All-head (λ v. p v ≡ true → v ≡ u) x xs each t)
-      | inr n ↦ cond-false (p x) (Some x) (find p xs) n ∙ find_one p xs u
+      | inr n ↦ cond-false _ (Some x) (find p xs) n ∙ find_one p xs u
           (cc) (All-tail (λ v. p v ≡ true → v ≡ u) x xs each)
     ]
 
@@ -61,12 +61,12 @@ find_none p (x ∷ xs) each =
 over_zero : (marks : List Bool) (v : List ℕ) (k : ℕ) → is_over marks v ≡ true → get_or marks k false ≡ false
     → get_or v k 0 ≡ 0
 over_zero marks [] k e m = refl
-over_zero [] (c ∷ v) zero e m = eqb-true c 0 (and_parts (eqb c 0) (is_over [] v) e).0
-over_zero [] (c ∷ v) (suc k) e m = over_zero [] v k (and_parts (eqb c 0) (is_over [] v) e).1 refl
+over_zero [] (c ∷ v) zero e m = eqb-true c 0 (and_parts _ _ e).0
+over_zero [] (c ∷ v) (suc k) e m = over_zero [] v k (and_parts _ _ e).1 refl
 over_zero (true ∷ marks) (c ∷ v) zero e m = cc m
 over_zero (true ∷ marks) (c ∷ v) (suc k) e m = over_zero marks v k e m
-over_zero (false ∷ marks) (c ∷ v) zero e m = eqb-true c 0 (and_parts (eqb c 0) (is_over marks v) e).0
-over_zero (false ∷ marks) (c ∷ v) (suc k) e m = over_zero marks v k (and_parts (eqb c 0) (is_over marks v) e).1 m
+over_zero (false ∷ marks) (c ∷ v) zero e m = eqb-true c 0 (and_parts _ _ e).0
+over_zero (false ∷ marks) (c ∷ v) (suc k) e m = over_zero marks v k (and_parts _ _ e).1 m
 
 over_from : (marks : List Bool) (v : List ℕ)
     → ((k : ℕ) → k < length v → get_or marks k false ≡ false → get_or v k 0 ≡ 0) → is_over marks v ≡ true
@@ -86,7 +86,7 @@ module _ (q : ℕ) (f : IsField q) where
   dot_unit (suc s) (suc k) (a ∷ v) h low =
       cc (
         f.mul_zero a,
-        zero-add-code q f (dot q v (unit s k)) (dot_code q f v (unit s k)),
+        zero-add-code q f _ (dot_code q f v (unit s k)),
         dot_unit s k v (record { len = (let e = h.len in omega arith); codes = h.codes.1 }) (omega arith),
       )
 
@@ -117,14 +117,18 @@ module _ (q : ℕ) (f : IsField q) where
   dot_where (a ∷ v) (b ∷ w) (y ∷ x) len h =
       let heads : mul q a b ≡ mul q a y = elim (h 0 (omega arith)) [
         | inl z ↦ cc (f.mul_comm 0 b, f.mul_zero b, f.mul_comm 0 y, f.mul_zero y)
-        | inr e ↦ ap (mul q a) e
+        | inr e ↦ cc
       ] in
-      ap₂ (add q) heads (dot_where v w x (omega arith) (λ j l. h (suc j) (omega arith)))
+      cc (dot_where v w x (omega arith) (λ j l. h (suc j) (omega arith)))
 
   unit_turned : (s j k : ℕ) → j < s → k < s → get_or (unit s j) k 0 ≡ get_or (unit s k) j 0
   unit_turned s j k hj hk =
-      sym (dot_unit s k (unit s j) (unit-vector q s j f) hk) ∙ dot_comm q f (unit s j) (unit s k) ∙ dot_unit s j
-      (unit s k) (unit-vector q s k f) hj
+      cc (
+        dot_unit s k _ (unit-vector q s j f) hk,
+        dot_comm q f (unit s j) (unit s k),
+        dot_unit s j
+            _ (unit-vector q s k f) hj,
+      )
 
   module _ (s : ℕ) (differences rows : List (List ℕ)) (basic : List Bool) (i : ℕ)
       (hd : All (λ d. IsVector q s d) differences) (stage : IsStage q s differences rows basic i) where
@@ -139,18 +143,18 @@ module _ (q : ℕ) (f : IsField q) where
     column_at j k low = get_or-map (λ r. get_or r j 0) rows k [] 0 (omega arith)
 
     pub column_len : (j : ℕ) → length (column j rows) ≡ s
-    column_len j = length-map rows (λ r. get_or r j 0) ∙ stage.count
+    column_len j = cc (length-map rows (λ r. get_or r j 0))
 
     code_at : (j k : ℕ) → j < s → k < s → get_or (direction k) j 0 < q
     code_at j k hj hk =
         let h = direction_vector k hk in
-        All-get_or (λ c. c < q) (direction k) j 0 (omega arith)
-        (All-from_recursion (λ c. c < q) (direction k) h.codes)
+        All-get_or (λ c. c < q) _ j 0 (omega arith)
+        (All-from_recursion _ _ h.codes)
 
     pub column_vector : (j : ℕ) → j < s → IsVector q s (column j rows)
     column_vector j hj = record {
       len = column_len j;
-      codes = recursion_from_All (λ c. c < q) (column j rows) (All-from_get_or (λ c. c < q) (column j rows) 0
+      codes = recursion_from_All (λ c. c < q) _ (All-from_get_or (λ c. c < q) (column j rows) 0
           (λ k low. let hk : k < s = omega (arith, column_len j) in
           rw (column_at j k hk) (code_at j k hj hk)));
     }
@@ -164,24 +168,24 @@ module _ (q : ℕ) (f : IsField q) where
 
     pub off_basics : (j k : ℕ) → j < s → k < s → get_or basic k false ≡ false → get_or (column j rows) k 0 ≡ 0
     off_basics j k hj hk m =
-        column_at j k hk ∙ ap (λ (r : List ℕ). get_or r j 0) (stage.zero k hk m) ∙ get_or-replicate s j 0 0 hj
+        column_at j k hk ∙ ap (λ r. get_or r j 0) (stage.zero k hk m) ∙ get_or-replicate s j 0 0 hj
 
     pub column_over : (j : ℕ) → j < s → is_over basic (column j rows) ≡ true
-    column_over j hj = over_from basic (column j rows) (λ k low m. off_basics j k hj (omega (arith, column_len j)) m)
+    column_over j hj = over_from basic _ (λ k low m. off_basics j k hj (omega (arith, column_len j)) m)
 
     module _ (low : i < s) where
       -- no other combination of basic factors gives the code of factor i
       unique : (v : List ℕ) → IsVector q s v → is_over basic v ≡ true → gives q differences i v ≡ true
           → v ≡ column i rows
       unique v hv over given =
-          ext_get_or 0 v (column i rows) (hv.len ∙ sym (column_len i)) (λ k short. at k (omega arith))
+          ext_get_or 0 v (column i rows) (cc (column_len i)) (λ k short. at k (omega arith))
         where
           all_pass : All (λ d. eqb (dot q v d) (dot q (unit s i) d) ≡ true) differences
           all_pass = All-from_get_or (λ d. eqb (dot q v d) (dot q (unit s i) d) ≡ true) differences [] (λ n h.
               let d = get_or differences n [] in
               let is = eqb-true _ _
               (All-get_or (λ d. eqb (dot q v d) (get_or d i 0) ≡ true) differences n [] h
-              (AllPass-from_list_all (λ d. eqb (dot q v d) (get_or d i 0)) differences given)) in
+              (AllPass-from_list_all _ differences given)) in
               eq-eqb _ _
               (is ∙ sym (dot_unit s i d (All-get_or (λ d. IsVector q s d) differences n [] h hd) low) ∙ dot_comm q f d
               (unit s i)))
@@ -191,15 +195,14 @@ module _ (q : ℕ) (f : IsField q) where
               eqb-true _ _
               ((All-get_or (λ r. IsMade q differences r) rows k [] (omega arith) stage.made).passes
               (λ x. eqb (dot q v x) (dot q (unit s i) x)) (same_closed v (unit s i)) all_pass)
-              ∙ dot_comm q f (unit s i) (direction k) ∙ dot_unit s i (direction k) (direction_vector k hk) low
+              ∙ dot_comm q f (unit s i) (direction k) ∙ dot_unit s i _ (direction_vector k hk) low
 
           entry : (k : ℕ) → k < s → get_or basic k false ≡ true → dot q v (direction k) ≡ get_or v k 0
           entry k hk m =
-              dot_where v (direction k) (unit s k) ((direction_vector k hk).len ∙ sym (unit-vector q s k f).len)
+              dot_where v _ _ ((direction_vector k hk).len ∙ sym (unit-vector q s k f).len)
               (λ j short. elim (cases_Bool (get_or basic j false)) [
                 | inl t ↦
-                    let hj : j < s = omega arith in
-                    inr (cc (column_at j k hk, stage.units j (marked j t) t, unit_turned s j k hj hk))
+                    inr (cc (column_at j k hk, stage.units j (marked j t) t, unit_turned s j k (omega arith) hk))
                 | inr n ↦ inl (over_zero basic v j over n)
               ])
               ∙ dot_unit s k v hv hk
@@ -207,7 +210,7 @@ module _ (q : ℕ) (f : IsField q) where
           at : (k : ℕ) → k < s → get_or v k 0 ≡ get_or (column i rows) k 0
           at k hk = elim (cases_Bool (get_or basic k false)) [
             | inl t ↦ cc (entry k hk t, on_direction k hk, column_at i k hk)
-            | inr n ↦ over_zero basic v k over n ∙ sym (off_basics i k low hk n)
+            | inr n ↦ cc (over_zero basic v k over n, off_basics i k low hk n)
           ]
 
       abbrev test : List ℕ → Bool
@@ -228,15 +231,14 @@ module _ (q : ℕ) (f : IsField q) where
           (list_any_at test (points q s) (place q u) [] (omega (arith, length-points q s))
           (rw there (and_from _ _ (column_over i low) e)))
           (all-points q s some (λ v. test v ≡ true → v ≡ u)
-          (λ v hv t. let parts = and_parts (is_over basic v) (gives q differences i v) t in
+          (λ v hv t. let parts = and_parts _ _ t in
           unique v hv parts.0 parts.1))
 
       pub missing : gives q differences i (column i rows) ≡ false → combination_for q s differences basic i ≡ None
       unfolding combination_for
       missing e =
-          let some : 0 < q = omega arith in
-          find_none test (points q s)
-          (all-points q s some (λ v. test v ≡ false) (λ v hv. false_from_ne_true (test v) (λ t.
-          let parts = and_parts (is_over basic v) (gives q differences i v) t in
-          both_ways (gives q differences i (column i rows)) e
+          find_none test _
+          (all-points q s (omega arith) (λ v. test v ≡ false) (λ v hv. false_from_ne_true _ (λ t.
+          let parts = and_parts _ _ t in
+          both_ways _ e
           (rw (unique v hv parts.0 parts.1) at parts.1))))

@@ -58,7 +58,7 @@ pub pairs_more : (plan : PlanView) (all : List (List ℕ × List ℕ)) (k : ℕ)
 pairs_more plan all k d pair old now new low is before one =
     let next : take (k + 1) all ≡ take k all ++ pair ∷ [] =
     cc (take_more all k d low) in
-    rw next (joined plan (take k all) (pair ∷ []) old now new before one)
+    rw next (joined plan _ _ old now new before one)
 
 -- the pairs of the column at i and each later one, and then those of the later ones
 pub pairs_at : (columns : List Column) (components : List (List ℕ)) (i : ℕ) (u : Column) (later : List Column)

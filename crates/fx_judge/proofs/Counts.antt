@@ -1,5 +1,5 @@
 -- How often each value comes in the first items of a list.
-use Rattle.std.proofs.Common.{ℕ, ◌≡◌, ◌≢◌, ◌<◌, ◌≤◌, ◌+◌, eqb, List, [], length, replicate, map, take, set, get_or}
+use Rattle.std.proofs.Common.{ℕ, ◌≡◌, ◌<◌, ◌≤◌, ◌+◌, eqb, List, [], length, replicate, map, take, set, get_or}
 use Rattle.std.proofs.Common.{get_or-set_other, get_or-set_same, sym, ◌∙◌, ap, arith, inl, inr}
 use Rattle.std.proofs.lemmas.List.{take_all, get_or-map, length-replicate, get_or-replicate, length-take}
 use Rattle.std.proofs.Math.ListN.{length-set}
@@ -17,12 +17,11 @@ counted_more n values counts k v h is low c = record {
     | inl e ↦
         let room : v < length counts = omega arith in
         let yes = count_by_more_yes (λ z. eqb z y) values k 0 h (eq-eqb _ _ (is ∙ sym e)) in
-        let was = c.each y small in
-        rw (e, get_or-set_same) (ap (λ (n : ℕ). n + 1) (rw e at was) ∙ sym (rw e at yes))
+        rw (e, get_or-set_same) (ap (λ n. n + 1) (rw e at (c.each y small)) ∙ sym (rw e at yes))
     | inr ne ↦
-        let other : y ≢ v = ne in
+        let other = ne in
         let miss = count_by_more_no (λ z. eqb z y) values k 0 h (ne_eqb _ _ (λ e. ne (sym e ∙ is))) in
-        rw get_or-set_other (c.each y small ∙ sym miss)
+        rw get_or-set_other (cc (c.each y small))
   ];
 }
 

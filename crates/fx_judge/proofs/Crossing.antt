@@ -1,7 +1,7 @@
 -- Where two vectors and their differences are balanced, each two values come together as often as is expected: each
 -- pair of values is on one more line than there are codes, and each line has as many rows.
 use Rattle.std.proofs.Common.{ℕ, suc, ◌≡◌, ◌<◌, ◌+◌, ◌*◌, Bool, true, false, cond, ◌&&◌, eqb, List}
-use Rattle.std.proofs.Common.{[], ◌∷◌, length, get_or, refl, sym, ◌∙◌, ap, ap₂, arith, inl, inr, mul_assoc}
+use Rattle.std.proofs.Common.{[], ◌∷◌, length, refl, sym, ◌∙◌, ap, ap₂, arith, inl, inr, mul_assoc}
 use Rattle.std.proofs.Common.{mul_left_comm}
 use Rattle.std.specs.Prelude.{count_by}
 use Rattle.std.specs.List.{range_with_len, sum_by}
@@ -42,11 +42,11 @@ one_test p z q low same =
 above_sum : (q lines upright both here : ℕ) → lines ≡ q * here → upright ≡ 1 → both ≡ here
     → lines + upright ≡ 1 + q * both
 above_sum q lines upright both here hl he hb =
-    ap₂ (λ (x y : ℕ). x + y) hl he ∙ omega arith ∙ ap (λ (x : ℕ). 1 + q * x) (sym hb)
+    ap₂ (λ x y. x + y) hl he ∙ omega arith ∙ ap (λ x. 1 + q * x) (sym hb)
 
 apart_sum : (q lines upright both : ℕ) → lines ≡ 1 → upright ≡ 0 → both ≡ 0 → lines + upright ≡ 1 + q * both
 apart_sum q lines upright both hl he hb =
-    ap₂ (λ (x y : ℕ). x + y) hl he ∙ omega arith ∙ ap (λ (x : ℕ). 1 + q * x) (sym hb)
+    ap₂ (λ x y. x + y) hl he ∙ omega arith ∙ ap (λ x. 1 + q * x) (sym hb)
 
 module _ (q : ℕ) (f : IsField q) where
   -- minus y
@@ -55,7 +55,7 @@ module _ (q : ℕ) (f : IsField q) where
 
   cancel_out : (p x y : ℕ) → p < q → add q (add q p x) (add q (minus_one p) y) ≡ add q y x
   cancel_out p x y h =
-      cc (add-add q f p x (minus_one p) y, less q f p h, zero-add-code q f (add q x y) (f.add_code x y), f.add_comm x y)
+      cc (add-add q f p x (minus_one p) y, less q f p h, zero-add-code q f _ (f.add_code x y), f.add_comm x y)
 
   cancel_in : (a x y : ℕ) → y < q → add q (add q a (minus_one y)) (add q x y) ≡ add q a x
   cancel_in a x y h =
@@ -97,21 +97,21 @@ module _ (q : ℕ) (f : IsField q) where
           cc (
             product c b B,
             cancel_out A (minus_one (mul q c B)) (mul q c b) hA,
-            cancel_in a (minus_one A) (mul q c b) (f.mul_code c b),
+            cancel_in a (minus_one A) _ (f.mul_code c b),
           )
 
       fall : (c : ℕ) → mul q c gap ≡ add q a (minus_one A)
           → add q A (minus_one (mul q c B)) ≡ add q a (minus_one (mul q c b))
       fall c e =
-          let there : add q (mul q c b) (minus_one (mul q c B)) ≡ add q a (minus_one A) = sym (product c b B) ∙ e in
+          let there = sym (product c b B) ∙ e in
           cc (
-            cancel_out (mul q c b) (minus_one (mul q c B)) A (f.mul_code c b),
+            cancel_out _ (minus_one (mul q c B)) A (f.mul_code c b),
             cancel_in a (minus_one (mul q c b)) A hA,
           )
 
       -- one line through both points, but for the upright one
       one_line : (c : ℕ) → c < q → test c ≡ eqb c slope
-      one_line c hc = bool_same (test c) (eqb c slope)
+      one_line c hc = bool_same _ _
           (λ t. eq-eqb c slope
           (cc (f.mul_one c hc, inverse, f.mul_assoc c gap (inv q gap), rise c hc (eqb-true _ _ t))))
           (λ t. eq-eqb _ _ (fall c
@@ -125,7 +125,7 @@ module _ (q : ℕ) (f : IsField q) where
 
     -- all lines, where the two points are one above the other
     same_line : B ≡ b → (c : ℕ) → test c ≡ eqb A a
-    same_line e c = bool_same (test c) (eqb A a)
+    same_line e c = bool_same _ _
         (λ t. eq-eqb A a
         (cc (cancelled q f A z hA low, eqb-true _ _ t, cancelled q f a z ha low)))
         (λ t. eq-eqb _ _ (ap₂ (add q) (eqb-true _ _ t) turn))
@@ -143,19 +143,12 @@ module _ (q : ℕ) (f : IsField q) where
     lines_at : sum_by (λ c. cond (test c) 1 0) (codes_of q) + cond (eqb B b) 1 0 ≡ 1 + q * cond (eqb A a && eqb B b) 1 0
     lines_at = elim (cases_eq B b) [
       | inl e ↦
-          let all =
-          same_tests test (eqb A a) q (same_line e) in
-          let upright : cond (eqb B b) 1 0 ≡ 1 = cc (eq-eqb B b e) in
-          let both : cond (eqb A a && eqb B b) 1 0 ≡ cond (eqb A a) 1 0 =
-          cc (eq-eqb B b e, and_true (eqb A a)) in
-          above_sum q _ _ _ (cond (eqb A a) 1 0) all upright both
+          above_sum q _ _ _ _ (same_tests test _ q (same_line e)) (cc (eq-eqb B b e))
+          (cc (eq-eqb B b e, and_true (eqb A a)))
       | inr ne ↦
           let one =
           one_test test slope q (f.mul_code (add q a (minus_one A)) (inv q (add q b (minus_one B)))) (one_line ne) in
-          let upright : cond (eqb B b) 1 0 ≡ 0 = cc (ne_eqb B b ne) in
-          let none : cond (eqb A a && eqb B b) 1 0 ≡ 0 =
-          cc (ne_eqb B b ne, and_false (eqb A a)) in
-          apart_sum q _ _ _ one upright none
+          apart_sum q _ _ _ one (cc (ne_eqb B b ne)) (cc (ne_eqb B b ne, and_false (eqb A a)))
     ]
       where
         and_true : (t : Bool) → ◌≡◌ {A = ℕ} (cond (t && true) 1 0) (cond t 1 0)
@@ -184,7 +177,7 @@ module _ (q : ℕ) (f : IsField q) where
     counted_lines : (rows : List (List ℕ))
         → sum_by (λ c. count_by (on c) rows) (codes_of q) + count_of q v b rows
         ≡ length rows + q * joint_count q rows u v a b
-    counted_lines [] = let z = sum_by-zero (codes_of q) in omega arith
+    counted_lines [] = omega (arith, sum_by-zero (codes_of q))
     counted_lines (x ∷ rows) =
         let here : sum_by (λ c. cond (on c x) 1 0) (codes_of q) + cond (eqb (dot q v x) b) 1 0
         ≡ 1 + q * cond (eqb (dot q u x) a && eqb (dot q v x) b) 1 0 =
@@ -192,17 +185,16 @@ module _ (q : ℕ) (f : IsField q) where
           sum_by-ext (λ c. cond (on c x) 1 0)
               (λ c. cond (test (dot q u x) (dot q v x) a b (dot_code q f u x) (dot_code q f v x) ha hb c) 1 0)
               (codes_of q)
-              (λ c. ap (λ (y : ℕ). cond (eqb y (line c)) 1 0) (dot-minus q f u v c x)),
+              (λ c. ap (λ y. cond (eqb y (line c)) 1 0) (dot-minus q f u v c x)),
           lines_at (dot q u x) (dot q v x) a b (dot_code q f u x) (dot_code q f v x) ha hb,
         ) in
-        let sums : sum_by (λ c. count_by (on c) (x ∷ rows)) (codes_of q)
-        ≡ sum_by (λ c. cond (on c x) 1 0) (codes_of q) + sum_by (λ c. count_by (on c) rows) (codes_of q) =
+        let sums =
         sum_by-ext (λ c. count_by (on c) (x ∷ rows)) (λ c. cond (on c x) 1 0 + count_by (on c) rows) (codes_of q)
         (λ c. sum_by-cons (λ x. cond (on c x) 1 0) x rows)
         ∙ sum_by-plus (λ c. cond (on c x) 1 0) (λ c. count_by (on c) rows) (codes_of q) in
-        ap₂ (λ (m n : ℕ). m + n) sums (sum_by-cons (λ x. cond (eqb (dot q v x) b) 1 0) x rows)
+        ap₂ (λ m n. m + n) sums (sum_by-cons (λ x. cond (eqb (dot q v x) b) 1 0) x rows)
         ∙ step _ _ _ _ _ _ _ here (counted_lines rows)
-        ∙ ap (λ (n : ℕ). suc (length rows) + q * n)
+        ∙ ap (λ n. suc (length rows) + q * n)
         (sym (sum_by-cons (λ x. cond (eqb (dot q u x) a && eqb (dot q v x) b) 1 0) x rows))
 
     module _ (rows : List (List ℕ)) (bu : q * count_of q u a rows ≡ length rows)
@@ -216,7 +208,7 @@ module _ (q : ℕ) (f : IsField q) where
           let n = count_of q v b rows in
           let j = joint_count q rows u v a b in
           let left = eq_of_mul-eq-mul_left q some (count_of q u a rows) n (bu ∙ sym bv) in
-          let lines : sum_by (λ c. count_by (on c) rows) (codes_of q) ≡ q * n =
+          let lines =
           sum_by-same (λ c. count_by (on c) rows) (λ c. n) 0 q
           (λ c low high. eq_of_mul-eq-mul_left q some (count_by (on c) rows) n (each c (omega arith) ∙ sym bv))
           ∙ sum_const n 0 q in
@@ -233,5 +225,5 @@ balanced_count q f w rows h y low =
       sum_by-same (λ z. count_by (λ x. eqb (dot q w x) z) rows) (λ z. count_of q w y rows) 0 q
           (λ z from to. h.same z y (omega arith) low),
       total (dot q w) q rows
-          (All-from_get_or (λ x. dot q w x < q) rows [] (λ k there. dot_code q f w (get_or rows k []))),
+          (All-from_get_or (λ x. dot q w x < q) rows [] (λ k there. dot_code q f w _)),
     )

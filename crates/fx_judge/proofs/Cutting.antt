@@ -22,8 +22,7 @@ module _ (q : ℕ) (head : List (List ℕ)) where
       → row_fault q head n (take (suc k) rows) ≡ row_fault q head n rows
   cut k n [] e = refl
   cut zero n (row ∷ rows) e =
-      let here = eq-eqb n 4098 (omega arith) in
-      cc (cond-true (eqb n 4098) (Some (plan_fault 7 n)) _ here)
+      cc (cond-true _ (Some (plan_fault 7 n)) _ (eq-eqb n 4098 (omega arith)))
   cut (suc k) n (row ∷ rows) e =
       cc (cut k (n + 1) rows (omega arith))
 
@@ -35,19 +34,19 @@ module _ (q : ℕ) (head : List (List ℕ)) where
       elim (cases_eq n 4098) [
         | inl is ↦
             let no : ◌≡◌ {A = Option PlanFault} (Some (plan_fault 7 n)) None =
-            sym (cond-true (eqb n 4098) (Some (plan_fault 7 n)) _ (eq-eqb n 4098 is)) ∙ e in cc no
+            sym (cond-true _ (Some (plan_fault 7 n)) _ (eq-eqb n 4098 is)) ∙ e in cc no
         | inr ne ↦
             let rest =
             none_through (eqb n 4098) (not (eqb (length row) (length head)))
             (not (are_values q (drop (unread_columns head) row))) (plan_fault 7 n) (plan_fault 4 n)
             (plan_fault 5 n) (row_fault q head (n + 1) rows) e in
-            let more = none_short (n + 1) rows (omega arith) rest in omega arith
+            omega (arith, none_short (n + 1) rows (omega arith) rest)
       ]
 
 same_end : (n : ℕ) (rows : List (List (List ℕ))) → eqb (length (take (suc n) rows)) 0 ≡ eqb (length rows) 0
 same_end n [] = refl
 same_end n (row ∷ rows) =
-    ne_eqb (length (row ∷ take n rows)) 0 (λ e. omega arith) ∙ sym (ne_eqb (length (row ∷ rows)) 0 (λ e. omega arith))
+    cc (ne_eqb (length (row ∷ take n rows)) 0 (λ e. omega arith), ne_eqb (length (row ∷ rows)) 0 (λ e. omega arith))
 
 cut_at : (q n : ℕ) (records : List (List (List ℕ))) → 2 + n ≡ 4098
     → first_fault q (take (suc (suc n)) records) ≡ first_fault q records
@@ -65,8 +64,7 @@ whole_cut q n (head ∷ rows) long e =
     let rest =
     none_through (not (are_names (factor_names head))) (nat_lt 300 (component_total q (length (factor_names head))))
     (eqb (length rows) 0) (plan_fault 3 1) (plan_fault 6 1) (plan_fault 2 2) (row_fault q head 2 rows) e in
-    let short = none_short q head 2 rows (omega arith) rest in
-    take_all n (head ∷ rows) (omega arith)
+    take_all n (head ∷ rows) (omega (arith, none_short q head 2 rows (omega arith) rest))
 
 -- two facts of a result together
 pub both_ok : {T E : Type 0} (P Q S : T → Type 0) (r : Result T E) → IfOk r P → IfOk r Q → ((x : T) → P x → Q x → S x)

@@ -1,6 +1,6 @@
 -- A plan is regular exactly where each combination of codes at the basic factors comes equally often.
 use Rattle.std.proofs.Common.{ℕ, zero, suc, ◌≡◌, ◌<◌, ◌≤◌, ◌+◌, ◌^◌, Bool, true, false, cond, ◌&&◌, eqb, List, []}
-use Rattle.std.proofs.Common.{◌∷◌, length, get_or, refl, sym, subst, ◌∙◌, ap, arith, inl, inr}
+use Rattle.std.proofs.Common.{◌∷◌, length, get_or, refl, sym, ◌∙◌, ap, arith, inl, inr}
 use Rattle.std.specs.Prelude.{count_by}
 use Rattle.std.specs.List.{All, AllByRecursion, list_all, list_any}
 use Rattle.std.proofs.lemmas.Bool.{cases_Bool, eq-eqb, eqb-true, and_parts, and_from}
@@ -39,9 +39,9 @@ pub at_vector : (q : ℕ) (marks : List Bool) (v : List ℕ) → IsVector q (len
 at_vector q [] v h = record { len = refl; codes = tt }
 at_vector q (m ∷ marks) [] h = absurd (let e = h.len in omega arith)
 at_vector q (true ∷ marks) (c ∷ v) h =
-    let r = at_vector q marks v (shorter q (length marks) c v h) in
+    let r = at_vector q marks v (shorter q _ c v h) in
     record { len = (let e = r.len in omega arith); codes = (h.codes.0, r.codes) }
-at_vector q (false ∷ marks) (c ∷ v) h = at_vector q marks v (shorter q (length marks) c v h)
+at_vector q (false ∷ marks) (c ∷ v) h = at_vector q marks v (shorter q _ c v h)
 
 pub spread_vector : (q : ℕ) (marks : List Bool) (t : List ℕ) → 0 < q → AllByRecursion (λ c. c < q) t
     → IsVector q (length marks) (spread marks t)
@@ -97,19 +97,19 @@ counted_some p (x ∷ xs) h = elim (cases_Bool (p x)) [
   | inl t ↦ cc
   | inr n ↦
       let rest : count_by p (x ∷ xs) ≡ count_by p xs =
-      sum_by-cons (λ x. cond (p x) 1 0) x xs ∙ ap (λ (b : Bool). cond b 1 0 + count_by p xs) n ∙ omega arith in
-      cc (counted_some p xs (omega (arith, rest)))
+      sum_by-cons (λ x. cond (p x) 1 0) x xs ∙ ap (λ b. cond b 1 0 + count_by p xs) n ∙ omega arith in
+      cc (counted_some p xs (omega arith))
 ]
 
 -- the place of a vector that is among others
 place_in : (D : List (List ℕ)) (x : List ℕ) → is_one_of D x ≡ true → (k : ℕ) × (k < length D) × (get_or D k [] ≡ x)
 place_in D x e =
-    let any = Any-from_list_any (same x) D e in
+    let any = Any-from_list_any _ D e in
     let is = same-true x any.1 any.4 in
-    (any.0, any.2, sym (get_or_read D any.0 any.1 any.2 (sym any.3) []) ∙ sym is)
+    (any.0, any.2, cc (get_or_read D any.0 any.1 any.2 (cc) []))
 
 in_place : (D : List (List ℕ)) (k : ℕ) (x : List ℕ) → k < length D → get_or D k [] ≡ x → is_one_of D x ≡ true
-in_place D k x h e = list_any_at (same x) D k [] h (rw e (same-self x))
+in_place D k x h e = list_any_at _ D k [] h (rw e (same-self x))
 
 module _ (q : ℕ) (f : IsField q) (s : ℕ) (D rows : List (List ℕ)) (basic : List Bool) (hd : All (λ d. IsVector q s d) D)
     (stage : IsStage q s D rows basic s) (made_zeros : IsMade q D (zeros s)) (some : 0 < length D) where
@@ -123,14 +123,14 @@ module _ (q : ℕ) (f : IsField q) (s : ℕ) (D rows : List (List ℕ)) (basic :
   item_vector k h = All-get_or (λ d. IsVector q s d) D k [] h hd
 
   pub key_low : (v : List ℕ) → IsVector q s v → basic_key q basic v < q ^ rank basic
-  key_low v h = number-below q (rank basic) (at basic v) (at_vector q basic v (wide v h))
+  key_low v h = number-below q _ _ (at_vector q basic v (wide v h))
 
   key_apart : (v w : List ℕ) → IsVector q s v → IsVector q s w → basic_key q basic v ≡ basic_key q basic w
       → at basic v ≡ at basic w
   key_apart v w hv hw e =
       cc (
-        digits-number q (rank basic) (at basic v) (at_vector q basic v (wide v hv)),
-        digits-number q (rank basic) (at basic w) (at_vector q basic w (wide w hw)),
+        digits-number q _ _ (at_vector q basic v (wide v hv)),
+        digits-number q _ _ (at_vector q basic w (wide w hw)),
       )
 
   -- what is made of the differences follows the rules
@@ -147,19 +147,21 @@ module _ (q : ℕ) (f : IsField q) (s : ℕ) (D rows : List (List ℕ)) (basic :
   -- and its codes at the basic factors determine it
   pub determined : (x y : List ℕ) → IsVector q s x → IsVector q s y → IsMade q D x → IsMade q D y
       → basic_key q basic x ≡ basic_key q basic y → x ≡ y
-  determined x y hx hy mx my e = ext_get_or 0 x y (hx.len ∙ sym hy.len) (λ j short. entry j (omega arith))
+  determined x y hx hy mx my e = ext_get_or 0 x y (cc) (λ j short. entry j (omega arith))
     where
       entry : (j : ℕ) → j < s → get_or x j 0 ≡ get_or y j 0
       entry j hj =
-          sym (follows x hx mx j hj)
-          ∙ dot_where q f (column j rows) x y (hx.len ∙ sym hy.len)
-          (λ k short. elim (cases_Bool (get_or basic k false)) [
-            | inl t ↦ inr (at_apart basic x y (wide x hx).len (wide y hy).len (key_apart x y hx hy e) k t)
-            | inr n ↦ inl
-                (off_basics q f s D rows basic s hd stage j k hj
-                (omega (arith, column_len q f s D rows basic s hd stage j)) n)
-          ])
-          ∙ follows y hy my j hj
+          cc (
+            follows x hx mx j hj,
+            dot_where q f (column j rows) x y (cc)
+                (λ k short. elim (cases_Bool (get_or basic k false)) [
+                  | inl t ↦ inr (at_apart basic x y (wide x hx).len (wide y hy).len (key_apart x y hx hy e) k t)
+                  | inr n ↦ inl
+                      (off_basics q f s D rows basic s hd stage j k hj
+                      (omega (arith, column_len q f s D rows basic s hd stage j)) n)
+                ]),
+            follows y hy my j hj,
+          )
 
   -- the vector with these codes at the basic factors
   abbrev pub point : ℕ → List ℕ
@@ -173,36 +175,36 @@ module _ (q : ℕ) (f : IsField q) (s : ℕ) (D rows : List (List ℕ)) (basic :
 
   point_vector : (z : ℕ) → IsVector q s (point z)
   point_vector z =
-      rw stage.marks at (spread_vector q basic (digits q (rank basic) z) positive
+      rw stage.marks at (spread_vector q basic _ positive
       (digits-vector q (rank basic) z positive).codes)
 
   pub made_vector : (z : ℕ) → IsVector q s (made_of z)
-  made_vector z = combination-vector q s f (point z) rows (recursion_from_All (λ r. IsVector q s r) rows stage.vectors)
+  made_vector z = combination-vector q s f _ rows (recursion_from_All _ rows stage.vectors)
 
   pub made_made : (z : ℕ) → IsMade q D (made_of z)
-  made_made z = made_combination q f s D rows (point z) made_zeros (point_vector z).codes stage.made
+  made_made z = made_combination q f s D rows _ made_zeros (point_vector z).codes stage.made
 
   pub made_key : (z : ℕ) → z < q ^ rank basic → basic_key q basic (made_of z) ≡ z
   made_key z low =
       cc (
-        at_same basic (made_of z) (point z) (wide (made_of z) (made_vector z)).len
-            (wide (point z) (point_vector z)).len
-            (λ k t. let hk : k < s = marked q f s D rows basic s hd stage k
-            t in sym (dot_unit q f s k (made_of z) (made_vector z) hk)
+        at_same basic _ _ (wide _ (made_vector z)).len
+            (wide _ (point_vector z)).len
+            (λ k t. let hk = marked q f s D rows basic s hd stage k
+            t in sym (dot_unit q f s k _ (made_vector z) hk)
             ∙ sym (dot-levels q f s (point z) rows (unit s k))
             ∙ ap (dot q (point z)) (levels_unit q f s k rows stage.vectors hk ∙ stage.units k hk t)
-            ∙ dot_unit q f s k (point z) (point_vector z) hk),
-        at_spread basic (digits q (rank basic) z) (digits-vector q (rank basic) z positive).len,
-        number-digits q (rank basic) z positive low,
+            ∙ dot_unit q f s k _ (point_vector z) hk),
+        at_spread basic _ (digits-vector q (rank basic) z positive).len,
+        number-digits q _ z positive low,
       )
 
   -- as often as its key
   as_key : (x : List ℕ) → IsVector q s x → IsMade q D x → counted (basic_key q basic x) ≡ count_by (same x) D
   as_key x hx mx =
-      count_agree (λ d. eqb (basic_key q basic d) (basic_key q basic x)) (same x) D
+      count_agree (λ d. eqb (basic_key q basic d) (basic_key q basic x)) _ D
       (All-from_get_or (λ d. eqb (basic_key q basic d) (basic_key q basic x) ≡ same x d) D [] (λ k h.
       let d = get_or D k [] in
-      bool_same (eqb (basic_key q basic d) (basic_key q basic x)) (same x d)
+      bool_same _ _
       (λ t. rw (determined d x (item_vector k h) hx (made_item q f D k h) mx (eqb-true _ _ t)) (same-self x))
       (λ t. eq-eqb _ _ (ap (basic_key q basic) (sym (same-true x d t))))))
 
@@ -215,16 +217,16 @@ module _ (q : ℕ) (f : IsField q) (s : ℕ) (D rows : List (List ℕ)) (basic :
         let inner : List ℕ → List ℕ → ℕ → Bool = λ u v c. is_one_of D (plus q u (scale q c v)) in
         let first =
         All-get_or (λ u. list_all (λ v. list_all (inner u v) (codes_of q)) D ≡ true) D a.0 [] a.1
-        (AllPass-from_list_all (λ u. list_all (λ v. list_all (inner u v) (codes_of q)) D) D e) in
+        (AllPass-from_list_all _ D e) in
         let second =
         All-get_or (λ v. list_all (inner (get_or D a.0 []) v) (codes_of q) ≡ true) D b.0 [] b.1
-        (AllPass-from_list_all (λ v. list_all (inner (get_or D a.0 []) v) (codes_of q)) D first) in
+        (AllPass-from_list_all _ D first) in
         let third = (range_decides (inner (get_or D a.0 []) (get_or D b.0 [])) q).0 second c h in
-        rw b.2 at (subst (λ (u : List ℕ). is_one_of D (plus q u (scale q c (get_or D b.0 []))) ≡ true) a.2 third);
+        rw b.2 at (rw a.2 at third);
   }
 
   all_among : All (λ d. is_one_of D d ≡ true) D
-  all_among = All-from_get_or (λ d. is_one_of D d ≡ true) D [] (λ k h. in_place D k (get_or D k []) h refl)
+  all_among = All-from_get_or (λ d. is_one_of D d ≡ true) D [] (λ k h. in_place D k _ h refl)
 
   even_at : are_even D ≡ true → (k n : ℕ) → k < length D → n < length D
       → count_by (same (get_or D k [])) D ≡ count_by (same (get_or D n [])) D
@@ -232,28 +234,28 @@ module _ (q : ℕ) (f : IsField q) (s : ℕ) (D rows : List (List ℕ)) (basic :
   even_at e k n hk hn =
       let first =
       All-get_or (λ u. list_all (λ v. eqb (count_by (same u) D) (count_by (same v) D)) D ≡ true) D k [] hk
-      (AllPass-from_list_all (λ u. list_all (λ v. eqb (count_by (same u) D) (count_by (same v) D)) D) D e) in
+      (AllPass-from_list_all _ D e) in
       eqb-true _ _
       (All-get_or (λ v. eqb (count_by (same (get_or D k [])) D) (count_by (same v) D) ≡ true) D n [] hn
-      (AllPass-from_list_all (λ v. eqb (count_by (same (get_or D k [])) D) (count_by (same v) D)) D first))
+      (AllPass-from_list_all _ D first))
 
   pub even_if_regular : (are_closed q D && are_even D) ≡ true → AreEven q basic D
-  even_if_regular e = record { each = λ z low. as_often z low ∙ sym (as_often 0 (omega arith)) }
+  even_if_regular e = record { each = λ z low. cc (as_often z low, as_often 0 (omega arith)) }
     where
       as_often : (z : ℕ) → z < q ^ rank basic → counted z ≡ count_by (same (get_or D 0 [])) D
       as_often z low =
-          let parts = and_parts (are_closed q D) (are_even D) e in
+          let parts = and_parts _ _ e in
           let here = place_in D (made_of z) ((made_made z).passes (is_one_of D) (closed_test parts.0) all_among) in
           cc (
             made_key z low,
-            as_key (made_of z) (made_vector z) (made_made z),
+            as_key _ (made_vector z) (made_made z),
             here.2,
             even_at parts.1 here.0 0 here.1 some,
           )
 
   pub regular_if_even : AreEven q basic D → (are_closed q D && are_even D) ≡ true
   unfolding are_closed are_even
-  regular_if_even h = and_from (are_closed q D) (are_even D)
+  regular_if_even h = and_from _ _
       (list_all-from_AllPass (λ u. list_all (λ v. list_all (λ c. is_one_of D (plus q u (scale q c v))) (codes_of q)) D)
       D
       (All-from_get_or (λ u. list_all (λ v. list_all (λ c. is_one_of D (plus q u (scale q c v))) (codes_of q)) D ≡ true)
@@ -269,14 +271,14 @@ module _ (q : ℕ) (f : IsField q) (s : ℕ) (D rows : List (List ℕ)) (basic :
       (All-from_get_or (λ v. eqb (count_by (same (get_or D k [])) D) (count_by (same v) D) ≡ true) D [] (λ n hn.
       eq-eqb _ _
       (cc (
-        as_key (get_or D k []) (item_vector k hk) (made_item q f D k hk),
+        as_key _ (item_vector k hk) (made_item q f D k hk),
         level k hk,
         level n hn,
-        as_key (get_or D n []) (item_vector n hn) (made_item q f D n hn),
+        as_key _ (item_vector n hn) (made_item q f D n hn),
       )))))))
     where
       level : (k : ℕ) → (hk : k < length D) → counted (basic_key q basic (get_or D k [])) ≡ counted 0
-      level k hk = h.each (basic_key q basic (get_or D k [])) (key_low (get_or D k []) (item_vector k hk))
+      level k hk = h.each (basic_key q basic (get_or D k [])) (key_low _ (item_vector k hk))
 
       sum_there : (k n c : ℕ) → k < length D → n < length D → c < q
           → is_one_of D (plus q (get_or D k []) (scale q c (get_or D n []))) ≡ true
@@ -285,17 +287,17 @@ module _ (q : ℕ) (f : IsField q) (s : ℕ) (D rows : List (List ℕ)) (basic :
           let v = get_or D n [] in
           let x = plus q u (scale q c v) in
           let hx =
-          plus-vector q s f u (scale q c v) (item_vector k hk) (scale-vector q s f c v (item_vector n hn)) in
+          plus-vector q s f u _ (item_vector k hk) (scale-vector q s f c v (item_vector n hn)) in
           let mx = made_sum q f D u v c hc (made_item q f D k hk) (made_item q f D n hn) in
           let here =
           counted_once (λ d. eqb (basic_key q basic d) (basic_key q basic u)) D k [] hk (eq-eqb _ _ refl) in
           let there : 1 ≤ counted (basic_key q basic x) =
           omega (arith, level k hk, h.each (basic_key q basic x) (key_low x hx)) in
-          let any = Any-from_list_any (λ d. eqb (basic_key q basic d) (basic_key q basic x)) D
-          (counted_some (λ d. eqb (basic_key q basic d) (basic_key q basic x)) D there) in
-          let read = get_or_read D any.0 any.1 any.2 (sym any.3) [] in
+          let any = Any-from_list_any _ D
+          (counted_some _ D there) in
+          let read = get_or_read D any.0 any.1 any.2 (cc) [] in
           in_place D any.0 x any.2
-          (determined (get_or D any.0 []) x (item_vector any.0 any.2) hx (made_item q f D any.0 any.2) mx
+          (determined _ x (item_vector any.0 any.2) hx (made_item q f D any.0 any.2) mx
           (cc (eqb-true _ _ any.4)))
 
   -- there are at least as many rows as combinations of codes
@@ -305,7 +307,7 @@ module _ (q : ℕ) (f : IsField q) (s : ℕ) (D rows : List (List ℕ)) (basic :
       let here =
       counted_once (λ d. eqb (basic_key q basic d) (basic_key q basic first)) D 0 [] some (eq-eqb _ _ refl) in
       let level = h.each (basic_key q basic first) (key_low first (item_vector 0 some)) in
-      enough (basic_key q basic) (q ^ rank basic) D
+      enough (basic_key q basic) _ D
       (All-from_get_or (λ d. basic_key q basic d < q ^ rank basic) D []
-      (λ k hk. key_low (get_or D k []) (item_vector k hk)))
+      (λ k hk. key_low _ (item_vector k hk)))
       (λ z low. omega (arith, h.each z low))

@@ -26,19 +26,17 @@ use Rattle.fx_judge.specs.declared.kinship.Kinship.TheVariants.{Aliased, Orthogo
 -- two numbers are told from 9 times the one and the other, which is below 9
 same_pair : (x y a b : ℕ) → y < 9 → b < 9 → eqb (9 * x + y) (9 * a + b) ≡ (eqb x a && eqb y b)
 same_pair x y a b hy hb =
-    bool_same (eqb (9 * x + y) (9 * a + b)) (eqb x a && eqb y b)
+    bool_same _ _
     (λ e. let n = eqb-true _ _ e in
     and_from _ _ (eq-eqb x a (omega arith)) (eq-eqb y b (omega arith)))
-    (λ e. let parts = and_parts (eqb x a) (eqb y b) e in
-    let l = eqb-true x a parts.0 in
-    let r = eqb-true y b parts.1 in
-    eq-eqb _ _ (omega arith))
+    (λ e. let parts = and_parts _ _ e in
+    eq-eqb _ _ (omega (arith, eqb-true x a parts.0, eqb-true y b parts.1)))
 
 -- an item that passes is counted
 pub counted_once : {X : Type 0} (p : X → Bool) (xs : List X) (i : ℕ) (d : X) → i < length xs → p (get_or xs i d) ≡ true
     → 1 ≤ count_by p xs
 counted_once p xs i d h e =
-    subst (λ (n : ℕ). n ≤ count_by p xs) (cond-true (p (get_or xs i d)) 1 0 e)
+    subst (λ n. n ≤ count_by p xs) (cond-true (p (get_or xs i d)) 1 0 e)
     (get_or-le-sum_by (λ x. cond (p x) 1 0) xs i d h)
 
 -- where none passes
@@ -81,7 +79,7 @@ module _ (q : ℕ) (f : IsField q) where
   value_is : (rows : List (List ℕ)) (w counts : List ℕ) → q ≤ 9 → AreValueCounts 9 (map (λ x. dot q w x) rows) counts
       → (a : ℕ) → a < q → get_or counts a 0 ≡ count_of q w a rows
   value_is rows w counts small told a h =
-      told.each a (omega arith) ∙ sum_by_map (λ z. cond (eqb z a) 1 0) (λ x. dot q w x) rows
+      told.each a (omega arith) ∙ sum_by_map (λ z. cond (eqb z a) 1 0) (dot q w) rows
 
   module _ (small : q ≤ 9) (rows : List (List ℕ)) (u v pairs : List ℕ)
       (told : AreValueCounts 81 (map (λ x. 9 * dot q u x + dot q v x) rows) pairs) where
@@ -93,11 +91,14 @@ module _ (q : ℕ) (f : IsField q) where
 
     pair_is : (a b : ℕ) → a < q → b < q → get_or pairs (9 * a + b) 0 ≡ joint_count q rows u v a b
     pair_is a b ha hb =
-        told.each (9 * a + b) (omega arith)
-        ∙ sum_by_map (λ z. cond (eqb z (9 * a + b)) 1 0) both rows
-        ∙ sum_by-ext (λ x. cond (eqb (both x) (9 * a + b)) 1 0) (λ x. cond (eqb (dot q u x) a && eqb (dot q v x) b) 1 0)
-        rows
-        (λ x. cc (same_pair (dot q u x) (dot q v x) a b (omega (arith, dot_code q f v x)) (omega arith)))
+        cc (
+          told.each (9 * a + b) (omega arith),
+          sum_by_map (λ z. cond (eqb z (9 * a + b)) 1 0) both rows,
+          sum_by-ext
+              (λ x. cond (eqb (both x) (9 * a + b)) 1 0) (λ x. cond (eqb (dot q u x) a && eqb (dot q v x) b) 1 0)
+              rows
+              (λ x. cc (same_pair (dot q u x) (dot q v x) a b (omega (arith, dot_code q f v x)) (omega arith))),
+        )
 
     -- orthogonal, by the counts
     pub orthogonal_decides : (runs : ℕ) (left right : List ℕ) → length rows ≡ runs
@@ -118,7 +119,7 @@ module _ (q : ℕ) (f : IsField q) where
                 );
           },
           λ h. outer.1 (λ a ha. (range_decides (at a) q).1 (λ b hb. eq-eqb _ _
-              (ap₂ (λ (x y : ℕ). x * y) len (sym (pair_is a b ha hb)) ∙ h.each a b ha hb ∙ ap₂ (λ (x y : ℕ). x * y)
+              (ap₂ (λ x y. x * y) len (sym (pair_is a b ha hb)) ∙ h.each a b ha hb ∙ ap₂ (λ x y. x * y)
               (value_is rows u left small l a ha) (value_is rows v right small r b hb)))),
         )
 
@@ -132,9 +133,9 @@ module _ (q : ℕ) (f : IsField q) where
           | inr ne ↦
               let none =
               h.line.none (dot q u x) (dot q v x) (dot_code q f u x) (dot_code q f v x) ne in
-              let at = get_or-map both rows i [] 0 low in
-              let there : i < length (map both rows) = rw (length-map rows both) low in
-              let some = counted_once (λ z. eqb z (both x)) (map both rows) i 0 there (eq-eqb _ _ at) in
+              let some =
+              counted_once (λ z. eqb z (both x)) _ i 0 (rw (length-map rows both) low)
+              (eq-eqb _ _ (get_or-map both rows i [] 0 low)) in
               absurd (omega (arith, told.each (both x) (omega (arith, dot_code q f u x, dot_code q f v x))))
         ]
 
@@ -145,18 +146,18 @@ module _ (q : ℕ) (f : IsField q) where
         let test : ℕ → Bool = λ c. is_constant q (off c) rows in (
           λ e.
               let found =
-              some_item test (λ c. (0 < c) × (c < q)) (range_with_len 1 (q - 1))
+              some_item test _ _
               (range_codes 1 (q - 1) (omega arith) (omega arith)) e in
-              let c = found.0 in
-              let con = (constant_decides q f (off c) rows).0 found.2 in
-              let value : (x : List ℕ) (i : ℕ) → i < length rows → get_or rows i x ≡ x → dot q (off c) x ≡ con.0 =
-              λ x i low is. rw is at (All-get_or (λ x. dot q (off c) x ≡ con.0) rows i x low con.1) in
+              let con = (constant_decides q f (off found.0) rows).0 found.2 in
+              let value : (x : List ℕ) (i : ℕ) → i < length rows → get_or rows i x ≡ x → dot q (off found.0) x ≡ con.0 =
+              λ x i low is. rw is at (All-get_or (λ x. dot q (off found.0) x ≡ con.0) rows i x low con.1) in
               record {
-                factor = c;
+                factor = found.0;
                 constant = con.0;
                 nonzero = found.1.0;
                 code = found.1.1;
-                value = rw (All-get_or (λ x. dot q (off c) x ≡ con.0) rows 0 [] some con.1) at (dot_code q f (off c)
+                value = rw (All-get_or (λ x. dot q (off found.0) x ≡ con.0) rows 0 [] some con.1) at
+                    (dot_code q f (off found.0)
                     (get_or rows 0 []));
                 line = record {
                   none = λ a b ha hb ne.
@@ -165,19 +166,20 @@ module _ (q : ℕ) (f : IsField q) where
                       (λ i d low. false_from_ne_true _ (λ t.
                       let x = get_or rows i d in
                       let parts = and_parts (eqb (dot q u x) a) (eqb (dot q v x) b) t in
-                      let is = All-get_or (λ x. dot q (off c) x ≡ con.0) rows i d low con.1 in
+                      let is = All-get_or (λ x. dot q (off found.0) x ≡ con.0) rows i d low con.1 in
                       let off_is =
-                      back (dot q u x) (mul q c (dot q v x)) con.0 (dot_code q f u x) (f.mul_code c (dot q v x))
-                      (sym (dot-minus u v c x) ∙ is) in
+                      back (dot q u x) (mul q found.0 (dot q v x)) con.0 (dot_code q f u x)
+                      (f.mul_code found.0 (dot q v x))
+                      (sym (dot-minus u v found.0 x) ∙ is) in
                       ne (cc (eqb-true _ _ parts.0, eqb-true _ _ parts.1))));
                 };
               },
           λ h.
               list_any_at test (range_with_len 1 (q - 1)) (h.factor - 1) 0
               (omega (arith, length-range_with_len 1 (q - 1)))
-              (subst (λ (c : ℕ). test c ≡ true)
-              (sym (get_or-range_with_len 1 (q - 1) (h.factor - 1) 0 (omega (arith, h.nonzero, h.code)) ∙ omega
-              (arith, h.nonzero)))
+              (subst (λ c. test c ≡ true)
+              (sym (get_or-range_with_len 1 (q - 1) (h.factor - 1) 0 (omega arith) ∙ omega
+              arith))
               ((constant_decides q f (off h.factor) rows).1
               (h.constant, All-from_get_or (λ x. dot q (off h.factor) x ≡ h.constant) rows [] (on_line h)))),
         )
@@ -190,15 +192,15 @@ module _ (q : ℕ) (f : IsField q) where
     not_aliased : 1 ≤ length rows → (HasLine q pairs → ⊥)
         → kinship q rows u v ≡ cond (are_orthogonal q rows u v) Orthogonal Partial
     not_aliased some none =
-        cond-false (is_aliased q rows u v) Aliased (cond (are_orthogonal q rows u v) Orthogonal Partial)
+        cond-false _ Aliased _
         (false_from_ne_true _ (λ e. none ((aliased_decides some).0 e)))
 
     pub kinship_orthogonal : 1 ≤ length rows → (HasLine q pairs → ⊥) → are_orthogonal q rows u v ≡ true
         → Orthogonal ≡ kinship q rows u v
     kinship_orthogonal some none e =
-        sym (not_aliased some none ∙ cond-true (are_orthogonal q rows u v) Orthogonal Partial e)
+        cc (not_aliased some none, cond-true _ Orthogonal Partial e)
 
     pub kinship_partial : 1 ≤ length rows → (HasLine q pairs → ⊥) → (are_orthogonal q rows u v ≡ true → ⊥)
         → Partial ≡ kinship q rows u v
     kinship_partial some none e =
-        sym (not_aliased some none ∙ cond-false (are_orthogonal q rows u v) Orthogonal Partial (false_from_ne_true _ e))
+        cc (not_aliased some none, cond-false (are_orthogonal q rows u v) Orthogonal Partial (false_from_ne_true _ e))

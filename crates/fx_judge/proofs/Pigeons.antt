@@ -22,13 +22,13 @@ module _ {X : Type 0} (key : X → ℕ) (n : ℕ) where
   total [] h = sum_by-zero (range_with_len 0 n)
   total (x ∷ xs) h =
       let low : key x < 0 + n = let l = All-head (λ x. key x < n) x xs h in omega arith in
-      let one : sum_by (λ z. cond (eqb (key x) z) 1 0) (range_with_len 0 n) ≡ 1 =
+      let one =
       sum_by-ext (λ z. cond (eqb (key x) z) 1 0) (λ z. cond (eqb z (key x)) 1 0) (range_with_len 0 n) (turned (key x)) ∙
       sum_by-pick (λ z. 1) (key x) 0 n (omega arith) low in
       sum_by-ext (counted (x ∷ xs)) (λ z. cond (eqb (key x) z) 1 0 + counted xs z) (range_with_len 0 n)
       (λ z. sum_by-cons (λ x. cond (eqb (key x) z) 1 0) x xs)
       ∙ sum_by-plus (λ z. cond (eqb (key x) z) 1 0) (counted xs) (range_with_len 0 n)
-      ∙ ap₂ (λ (a b : ℕ). a + b) one (total xs (All-tail (λ x. key x < n) x xs h))
+      ∙ ap₂ (λ a b. a + b) one (total xs (All-tail (λ x. key x < n) x xs h))
       ∙ omega arith
 
 low_sum : (g : ℕ → ℕ) (n a : ℕ) → ((z : ℕ) → a ≤ z → z < a + n → 1 ≤ g z) → n ≤ sum_by g (range_with_len a n)

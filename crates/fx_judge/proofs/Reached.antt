@@ -1,10 +1,10 @@
 -- The first records of a text, as a reader gives them one after another.
 use Rattle.std.proofs.Common.{ℕ, zero, suc, ◌≡◌, ◌<◌, ◌≤◌, ◌+◌, ◌-◌, ◌⊎◌, Bool, true, false, cond, List, [], ◌∷◌, ◌++◌}
-use Rattle.std.proofs.Common.{length, take, Option, Some, None, refl, sym, subst, ◌∙◌, ap, ap₂, arith, inl, inr}
+use Rattle.std.proofs.Common.{length, take, Option, Some, None, refl, sym, ◌∙◌, arith, inl, inr}
 use Rattle.std.proofs.Common.{zero-add, append-nil}
 use Rattle.std.proofs.lemmas.List.{take_all, take_at}
-use Rattle.csv.specs.Machine.{Read, next_record, step, is_end, fields_after, field_after, ends_at_end}
-use Rattle.csv.specs.Reading.{Reached, records_from, records_next, records, default_config, strip_bom}
+use Rattle.csv.specs.Machine.{Read, next_record, step, fields_after, field_after}
+use Rattle.csv.specs.Reading.{Reached, records_from, records, default_config, strip_bom}
 use Rattle.csv.specs.declared.parser.Config.{Config}
 use Rattle.csv.specs.declared.parser.State.{State}
 use Rattle.csv.specs.declared.parser.State.TheVariants as st
@@ -32,12 +32,11 @@ one_less false fields s rest p o more e = elim (more e) [ inl h ↦ inl (omega a
 shorter : (cfg : Config) (s : State) (fields : List (List ℕ)) (field : List ℕ) (xs : List ℕ) (p : Read)
     → next_record cfg s fields field xs ≡ Some p → Shorter (length xs) p
 unfolding next_record
-shorter cfg s fields field [] p e = inr (last_read (ends_at_end s) (fields ++ (field ∷ [])) p e)
+shorter cfg s fields field [] p e = inr (last_read _ _ p e)
 shorter cfg s fields field (c ∷ rest) p e =
     let one : length rest + 1 ≡ suc (length rest) = omega arith in
-    rw one at (one_less (is_end (step cfg s c).1) (fields_after (step cfg s c).1 fields field) (step cfg s c).0 rest p
-    (next_record cfg (step cfg s c).0 (fields_after (step cfg s c).1 fields field)
-    (field_after (step cfg s c).1 c field) rest)
+    rw one at (one_less _ _ (step cfg s c).0 rest p
+    _
     (shorter cfg (step cfg s c).0 (fields_after (step cfg s c).1 fields field) (field_after (step cfg s c).1 c field)
     rest p) e)
 
@@ -49,7 +48,7 @@ no_more : (cfg : Config) (rows : List (List (List ℕ))) (s2 : State) (ys : List
     → Reached cfg st.StartRecord [] rows s2 ys → length rows ≡ 0
 unfolding Reached
 no_more cfg [] s2 ys h = refl
-no_more cfg (r ∷ rows) s2 ys h = let e : ◌≡◌ {A = Option Read} None (Some h.0) = sym (none_left cfg) ∙ h.1 in cc e
+no_more cfg (r ∷ rows) s2 ys h = let e = sym (none_left cfg) ∙ h.1 in cc e
 
 -- there are at most as many records as bytes, and one
 few : (cfg : Config) (s : State) (xs : List ℕ) (rows : List (List (List ℕ))) (s2 : State) (ys : List ℕ)
@@ -58,11 +57,9 @@ unfolding Reached
 few cfg s xs [] s2 ys h = omega arith
 few cfg s xs (r ∷ rows) s2 ys h =
     elim (shorter cfg s [] [] xs h.0 h.1) [
-      | inl l ↦ let more = few cfg h.0.1 h.0.2 rows s2 ys h.3 in omega arith
+      | inl l ↦ omega (arith, few cfg h.0.1 h.0.2 rows s2 ys h.3)
       | inr z ↦
-          let rest : Reached cfg st.StartRecord [] rows s2 ys =
-          rw z.0 at (subst (λ (b : List ℕ). Reached cfg h.0.1 b rows s2 ys) z.1 h.3) in
-          let none = no_more cfg rows s2 ys rest in omega arith
+          omega (arith, no_more cfg rows s2 ys (rw z.0 at (rw z.1 at h.3)))
     ]
 
 -- the records that were reached, and then those that are left
@@ -70,8 +67,7 @@ joined : (cfg : Config) (s : State) (xs : List ℕ) (rows : List (List (List ℕ
     → Reached cfg s xs rows s2 ys → records_from cfg (length rows + k) s xs ≡ rows ++ records_from cfg k s2 ys
 unfolding Reached records_from
 joined cfg s xs [] s2 ys k h =
-    ap (λ (n : ℕ). records_from cfg n s xs) (zero-add k) ∙ ap₂ (λ (a : State) (b : List ℕ). records_from cfg k a b) h.0
-    h.1
+    cc (zero-add k)
 joined cfg s xs (r ∷ rows) s2 ys k h =
     let one : suc (length rows) + k ≡ suc (length rows + k) = omega arith in
     cc (h.1, h.2, joined cfg h.0.1 h.0.2 rows s2 ys k h.3)
@@ -80,7 +76,7 @@ ended : (cfg : Config) (s : State) (ys : List ℕ) (k : ℕ) → next_record cfg
     → records_from cfg k s ys ≡ []
 unfolding records_from
 ended cfg s ys zero e = refl
-ended cfg s ys (suc k) e = ap (records_next (records_from cfg k)) e
+ended cfg s ys (suc k) e = cc
 
 -- the records of a text are those that were reached, and then those that are left
 all_records : (cfg : Config) (xs : List ℕ) (rows : List (List (List ℕ))) (s2 : State) (ys : List ℕ)
@@ -99,7 +95,7 @@ unfolding csv_records
 whole_text text rows s2 ys n h none few =
     let all : records default_config (strip_bom text) ≡ rows =
     cc (
-      all_records default_config (strip_bom text) rows s2 ys h,
+      all_records default_config _ rows s2 ys h,
       ended default_config s2 ys (length (strip_bom text) + 1 - length rows) none,
       append-nil rows,
     ) in
@@ -112,6 +108,6 @@ pub front_of_text : (text : List ℕ) (rows : List (List (List ℕ))) (s2 : Stat
 unfolding csv_records
 front_of_text text rows s2 ys n h len =
     sym (cc (
-      all_records default_config (strip_bom text) rows s2 ys h,
+      all_records default_config _ rows s2 ys h,
       take_at rows (records_from default_config (length (strip_bom text) + 1 - length rows) s2 ys) n len,
     ))

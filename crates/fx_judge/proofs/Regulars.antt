@@ -1,20 +1,19 @@
 -- What elimination shows of a plan: whether it is regular, and that its rules are over its factors.
-use Rattle.std.proofs.Common.{ℕ, ◌≡◌, ◌<◌, ◌≤◌, ◌^◌, Bool, ◌&&◌, List, [], ◌∷◌}
+use Rattle.std.proofs.Common.{ℕ, ◌≡◌, ◌<◌, ◌≤◌, ◌^◌, Bool, List, [], ◌∷◌}
 use Rattle.std.proofs.Common.{length, Option, Some, None, refl, sym, subst, ◌∙◌, arith, inl, inr}
 use Rattle.std.specs.Prelude.{find, option_map, option_to_list}
-use Rattle.std.specs.List.{All, AllByRecursion, range_with_len}
+use Rattle.std.specs.List.{All, AllByRecursion}
 use Rattle.std.proofs.lemmas.Bool.{cases_Bool, cond-true, cond-false, false_from_ne_true}
 use Rattle.std.proofs.lemmas.List.Elements.{All-head, All-tail, All-from_recursion}
 use Rattle.fx_base.proofs.Ranges.{each-range}
 use Rattle.fx_components.proofs.Enumerating.{flat}
 use Rattle.fx_designs.specs.Vectors.{IsVector}
-use Rattle.fx_designs.specs.Runs.{points}
 use Rattle.fx_laws.proofs.Shift.{all-points}
 use Rattle.fx_judge.specs.declared.rule.Rule.{Rule}
 use Rattle.fx_judge.specs.Bases.{AreEven, rank}
 use Rattle.fx_judge.specs.Plans.{IsPlan, PlanView}
 use Rattle.fx_judge.specs.Regular.{is_regular_plan, row_differences}
-use Rattle.fx_judge.specs.Rules.{IsRuleOver, basic_among, combination_for, first_row, gives, is_over, plan_rule}
+use Rattle.fx_judge.specs.Rules.{IsRuleOver, basic_among, combination_for, first_row, plan_rule}
 use Rattle.fx_judge.specs.Rules.{plan_rules, regular_rules, rule_by}
 use Rattle.fx_judge.proofs.Marked.{even_fits, marks_long, plan_differences, regular_even}
 
@@ -22,9 +21,9 @@ find_holds : {X : Type 0} (P : X → Type 0) (p : X → Bool) (xs : List X) (u :
 find_holds P p [] u all e = cc e
 find_holds P p (x ∷ xs) u all e = elim (cases_Bool (p x)) [
   | inl t ↦
-      let is : Some x ≡ Some u = sym (cond-true (p x) (Some x) (find p xs) t) ∙ e in
+      let is = sym (cond-true _ (Some x) (find p xs) t) ∙ e in
       subst P (cc is) (All-head P x xs all)
-  | inr n ↦ find_holds P p xs u (All-tail P x xs all) (sym (cond-false (p x) (Some x) (find p xs) n) ∙ e)
+  | inr n ↦ find_holds P p xs u (All-tail P x xs all) (cc (cond-false _ (Some x) (find p xs) n))
 ]
 
 -- a combination has a code for each factor
@@ -32,7 +31,7 @@ combination_long : (q s : ℕ) (differences : List (List ℕ)) (basic : List Boo
     → combination_for q s differences basic i ≡ Some u → s ≤ length u
 unfolding combination_for
 combination_long q s differences basic i u some e =
-    find_holds (λ u. s ≤ length u) (λ u. is_over basic u && gives q differences i u) (points q s) u
+    find_holds (λ u. s ≤ length u) _ _ u
     (all-points q s some (λ u. s ≤ length u) (λ u h. omega arith)) e
 
 rule_over : (q s : ℕ) (rows : List (List ℕ)) (i : ℕ) (o : Option (List ℕ)) → 0 < q → i < s
@@ -44,7 +43,7 @@ rule_over q s rows i (Some u) some low e = (
     first = omega arith;
     last = omega arith;
     combination =
-        combination_long q s (row_differences q rows) (basic_among q s (row_differences q rows) i) i u some e;
+        combination_long q s _ _ i u some e;
   },
   tt,
 )
@@ -52,10 +51,10 @@ rule_over q s rows i (Some u) some low e = (
 -- each rule is that of a factor, over the factors
 pub rules_over : (q s : ℕ) (rows : List (List ℕ)) → 0 < q → All (IsRuleOver s) (plan_rules q s rows)
 rules_over q s rows some =
-    All-from_recursion (IsRuleOver s) (plan_rules q s rows)
-    (flat (IsRuleOver s) (λ i. i < s) (λ i. option_to_list (plan_rule q s rows i))
+    All-from_recursion _ _
+    (flat (IsRuleOver s) _ (λ i. option_to_list (plan_rule q s rows i))
     (λ i low. rule_over q s rows i _ some low refl)
-    (range_with_len 0 s) (each-range (λ i. i < s) 0 s (λ i low high. omega arith)))
+    _ (each-range (λ i. i < s) 0 s (λ i low high. omega arith)))
 
 module _ (plan : PlanView) (h : IsPlan plan) (q : ℕ) (basic : List Bool) (differences : List (List ℕ)) (eq : q ≡ plan.q)
     (eb : basic ≡ basic_among plan.q (length plan.names) (row_differences plan.q plan.rows) (length plan.names))
@@ -68,24 +67,20 @@ module _ (plan : PlanView) (h : IsPlan plan) (q : ℕ) (basic : List Bool) (diff
 
   pub each_fits : All (λ d. IsVector q (length basic) d) differences
   each_fits =
-      rw eq (subst (λ (b : List Bool). All (λ d. IsVector plan.q (length b) d) differences) (sym eb)
-      (subst (λ (l : List (List ℕ)). All (λ d. IsVector plan.q (length marks) d) l) (sym ed)
-      (subst (λ (n : ℕ). All (λ d. IsVector plan.q n d) all) (sym (marks_long plan h)) (plan_differences plan h))))
+      rw eq (rw (← eb) at (subst (λ l. All (λ d. IsVector plan.q (length marks) d) l) (sym ed)
+      (rw (← (marks_long plan h)) at (plan_differences plan h))))
 
   to_plan : AreEven q basic differences → AreEven plan.q marks all
   to_plan e =
-      rw ed at (subst (λ (b : List Bool). AreEven plan.q b differences) eb
-      (subst (λ (q : ℕ). AreEven q basic differences) eq e))
+      rw ed at (rw eb at (rw eq at e))
 
   from_plan : AreEven plan.q marks all → AreEven q basic differences
   from_plan e =
-      rw eq (subst (λ (b : List Bool). AreEven plan.q b differences) (sym eb)
-      (subst (λ (l : List (List ℕ)). AreEven plan.q marks l) (sym ed) e))
+      rw eq (rw (← eb) at (subst (λ l. AreEven plan.q marks l) (sym ed) e))
 
   pub even_within : AreEven q basic differences → q ^ rank basic ≤ length differences
   even_within e =
-      rw eq (subst (λ (b : List Bool). plan.q ^ rank b ≤ length differences) (sym eb)
-      (subst (λ (l : List (List ℕ)). plan.q ^ rank marks ≤ length l) (sym ed) (even_fits plan h (to_plan e))))
+      rw eq (rw (← eb) at (subst (λ l. plan.q ^ rank marks ≤ length l) (sym ed) (even_fits plan h (to_plan e))))
 
   pub rules_if_even : (rules : List Rule) → rules ≡ plan_rules plan.q (length plan.names) plan.rows
       → AreEven q basic differences → Some rules ≡ regular_rules plan
@@ -95,5 +90,5 @@ module _ (plan : PlanView) (h : IsPlan plan) (q : ℕ) (basic : List Bool) (diff
 
   pub none_if_uneven : (AreEven q basic differences → ⊥) → None ≡ regular_rules plan
   none_if_uneven not =
-      sym (cond-false (is_regular_plan plan.q plan.rows) (Some (plan_rules plan.q (length plan.names) plan.rows)) None
+      sym (cond-false _ (Some (plan_rules plan.q (length plan.names) plan.rows)) None
       (false_from_ne_true (is_regular_plan plan.q plan.rows) (λ t. not (from_plan ((regular_even plan h).0 t)))))

@@ -2,7 +2,7 @@
 use Rattle.std.proofs.Common.{ℕ, suc, ◌≡◌, ◌≢◌, ◌<◌, ◌≤◌, ◌+◌, List, [], ◌∷◌, ◌++◌, length, map, drop, get_or}
 use Rattle.std.proofs.Common.{get_or-set_same, get_or-set_other, Option, Some, None, refl, sym, subst, ◌∙◌, ap, ap₂}
 use Rattle.std.proofs.Common.{arith, inl, inr, append-nil}
-use Rattle.std.specs.Prelude.{Bool, is_some, not, option_to_list, option_map, replicate}
+use Rattle.std.specs.Prelude.{Bool, is_some, not, option_to_list, replicate}
 use Rattle.std.specs.List.{flat_map, range_with_len}
 use Rattle.std.proofs.Math.ListN.{length-set}
 use Rattle.std.proofs.lemmas.Bool.{cases_eq}
@@ -11,7 +11,7 @@ use Rattle.std.proofs.lemmas.List.Elements.{All-replicate}
 use Rattle.std.proofs.lemmas.Grind.{flat_map-append}
 use Rattle.fx_runs.proofs.Grouping.{next_place}
 use Rattle.fx_designs.specs.Galois.{IsField, neg}
-use Rattle.fx_designs.specs.Vectors.{IsVector, dot, minus, plus, scale, zeros, combination}
+use Rattle.fx_designs.specs.Vectors.{IsVector, minus, plus, scale, zeros, combination}
 use Rattle.fx_laws.proofs.Linear.{dot_code, dot-plus, dot-scale, dot-zeros}
 use Rattle.fx_laws.proofs.Ranks.{plus-assoc, plus-zero}
 use Rattle.fx_laws.proofs.Reorders.{plus-comm}
@@ -33,7 +33,7 @@ module _ (q : ℕ) (f : IsField q) where
   combination_more m u rows k a r sum hu hr ea er =
       plus-assoc q f sum (scale q a r) (combination q m (drop (k + 1) u) (drop (k + 1) rows))
       ∙ ap (plus q sum)
-      (ap₂ (λ (a : ℕ) (r : List ℕ). plus q (scale q a r) (combination q m (drop (k + 1) u) (drop (k + 1) rows))) ea er
+      (ap₂ (λ a r. plus q (scale q a r) (combination q m (drop (k + 1) u) (drop (k + 1) rows))) ea er
       ∙ sym (cc (drop_more u k 0 hu, drop_more rows k [] hr)))
 
   -- where no code is left
@@ -48,12 +48,12 @@ module _ (q : ℕ) (f : IsField q) where
   -- a row less itself
   minus_self : (s : ℕ) (x : List ℕ) → IsVector q s x → minus q x x ≡ zeros s
   minus_self s x h =
-      ext q s f (minus q x x) (zeros s) (plus-vector q s f x (scale q (neg q 1) x) h (scale-vector q s f (neg q 1) x h))
+      ext q s f _ _ (plus-vector q s f x _ h (scale-vector q s f (neg q 1) x h))
       (zeros-vector q s f)
       (λ p. cc (
         dot-plus q f x (scale q (neg q 1) x) p,
         dot-scale q f (neg q 1) x p,
-        less q f (dot q x p) (dot_code q f x p),
+        less q f _ (dot_code q f x p),
         dot-zeros q f s p,
       ))
 
@@ -83,8 +83,8 @@ module _ (q : ℕ) (f : IsField q) where
       → IsStage q s D (replicate s (zeros s)) (basic_among q s D 0) 0
   starts s D z = record {
     count = length-replicate s (zeros s);
-    vectors = All-replicate (λ r. IsVector q s r) s (zeros s) (zeros-vector q s f);
-    made = All-replicate (λ r. IsMade q D r) s (zeros s) z;
+    vectors = All-replicate (λ r. IsVector q s r) s _ (zeros-vector q s f);
+    made = All-replicate (λ r. IsMade q D r) s _ z;
     basics = refl;
     marks = refl;
     rules = λ j h. absurd (omega arith);
@@ -97,7 +97,7 @@ pub turned : (q s : ℕ) (D rows : List (List ℕ)) (b : List Bool) (i : ℕ) �
     → IsStage q s D rows (basic_among q s D (i + 1)) (i + 1)
 turned q s D rows b i h =
     let one : suc i ≡ i + 1 = omega arith in
-    rw (← one) (subst (λ (b : List Bool). IsStage q s D rows b (suc i)) h.basics h)
+    rw (← one) (rw h.basics at h)
 
 -- an entry of the directions that have grown
 pub grown_entry : (q : ℕ) (rows : List (List ℕ)) (e x r : List ℕ) (i k : ℕ) → k < length rows → r ≡ get_or rows k []
@@ -149,7 +149,7 @@ pub no_rule : (q s : ℕ) (rows : List (List ℕ)) (i : ℕ)
     → combination_for q s (row_differences q rows) (basic_among q s (row_differences q rows) i) i ≡ None
     → rules_below q s rows i ≡ rules_below q s rows (i + 1)
 no_rule q s rows i e =
-    let told : plan_rule q s rows i ≡ None = ap (option_map (rule_by q (first_row rows) i)) e in
+    let told : plan_rule q s rows i ≡ None = cc in
     cc (append-nil (rules_below q s rows i), more q s rows i)
 
 -- the mark of one more factor

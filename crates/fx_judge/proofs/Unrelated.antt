@@ -22,7 +22,6 @@ use Rattle.fx_judge.specs.declared.kinship.Kinship.TheVariants.{Aliased, Orthogo
 use Rattle.fx_judge.specs.Kinships.{are_orthogonal, joint_count, kinship}
 use Rattle.fx_judge.specs.Plans.{IsPlan, PlanView}
 use Rattle.fx_judge.specs.Regular.{is_regular_plan, row_differences}
-use Rattle.fx_judge.specs.Rules.{basic_among}
 use Rattle.fx_judge.proofs.Bases.{dot_sum}
 use Rattle.fx_judge.proofs.Crossing.{balanced_count, crossing}
 use Rattle.fx_judge.proofs.Even.{count_agree}
@@ -49,14 +48,14 @@ module _ (q : ℕ) (f : IsField q) where
     relative y = add q y (mul q (neg q 1) (dot q w x0))
 
     value : (x : List ℕ) → dot q w (minus q x x0) ≡ relative (dot q w x)
-    value x = dot_sum q f w x x0 (neg q 1)
+    value x = dot_sum q f w x x0 _
 
     row_constant : IsConstant q w (map (λ x. minus q x x0) rows) → IsConstant q w rows
     row_constant h = (
       add q h.0 (dot q w x0),
       All-from_get_or (λ x. dot q w x ≡ add q h.0 (dot q w x0)) rows [] (λ k low.
           let x = get_or rows k [] in
-          back q f (dot q w x) (dot q w x0) h.0 (dot_code q f w x) (dot_code q f w x0)
+          back q f _ _ h.0 (dot_code q f w x) (dot_code q f w x0)
           (sym (value x) ∙ All-get_or (λ x. dot q w (minus q x x0) ≡ h.0) rows k [] low
           (unmapped h.1))),
     )
@@ -66,26 +65,30 @@ module _ (q : ℕ) (f : IsField q) where
         unmapped k =
             All-from_recursion (λ x. dot q w (minus q x x0) ≡ h.0) rows
             (All-unmap (λ d. dot q w d ≡ h.0) (λ x. minus q x x0) rows
-            (recursion_from_All (λ d. dot q w d ≡ h.0) (map (λ x. minus q x x0) rows) k))
+            (recursion_from_All _ _ k))
 
     row_test : (x : List ℕ) (y : ℕ) → y < q → eqb (dot q w x) y ≡ eqb (dot q w (minus q x x0)) (relative y)
-    row_test x y low = bool_same (eqb (dot q w x) y) (eqb (dot q w (minus q x x0)) (relative y))
+    row_test x y low = bool_same _ _
         (λ t. eq-eqb _ _ (value x ∙ ap relative (eqb-true _ _ t)))
         (λ t. eq-eqb _ _
-        (back q f (dot q w x) (dot q w x0) (relative y) (dot_code q f w x) (dot_code q f w x0)
+        (back q f _ _ (relative y) (dot_code q f w x) (dot_code q f w x0)
         (sym (value x) ∙ eqb-true _ _ t)
-        ∙ sym (back q f y (dot q w x0) (relative y) low (dot_code q f w x0) refl)))
+        ∙ sym (back q f y _ (relative y) low (dot_code q f w x0) refl)))
 
     row_count : (y : ℕ) → y < q → count_of q w y rows ≡ count_of q w (relative y) (map (λ x. minus q x x0) rows)
     row_count y low =
-        sum_by-ext (λ x. cond (eqb (dot q w x) y) 1 0) (λ x. cond (eqb (dot q w (minus q x x0)) (relative y)) 1 0) rows
-        (λ x. cc (row_test x y low))
-        ∙ sym (sum_by_map (λ d. cond (eqb (dot q w d) (relative y)) 1 0) (λ x. minus q x x0) rows)
+        cc (
+          sum_by-ext (λ x. cond (eqb (dot q w x) y) 1 0) (λ x. cond (eqb (dot q w (minus q x x0)) (relative y)) 1 0)
+              rows
+              (λ x. cc (row_test x y low)),
+          sum_by_map (λ d. cond (eqb (dot q w d) (relative y)) 1 0) (λ x. minus q x x0)
+              rows,
+        )
 
     row_balanced : IsBalanced q w (map (λ x. minus q x x0) rows) → IsBalanced q w rows
     row_balanced h = record {
       same = λ y z hy hz.
-          row_count y hy ∙ h.same (relative y) (relative z) (f.add_code y _) (f.add_code z _) ∙ sym (row_count z hz);
+          cc (row_count y hy, h.same (relative y) (relative z) (f.add_code y _) (f.add_code z _), row_count z hz);
     }
 
   module _ (rows : List (List ℕ)) where
@@ -94,27 +97,23 @@ module _ (q : ℕ) (f : IsField q) where
         → length rows * joint_count q rows u v a b ≡ count_of q u a rows * count_of q v b rows
     const_left u v h a b = elim (cases_eq h.0 a) [
       | inl e ↦
-          let all : count_of q u a rows ≡ length rows =
+          let all =
           count_agree (λ x. eqb (dot q u x) a) (λ x. true) rows
           (All-from_get_or (λ x. eqb (dot q u x) a ≡ true) rows [] (λ k low. eq-eqb _ _ (at k low ∙ e)))
           ∙ all_counted rows in
-          let both =
-          count_agree (λ x. eqb (dot q u x) a && eqb (dot q v x) b) (λ x. eqb (dot q v x) b) rows
+          cc (count_agree (λ x. eqb (dot q u x) a && eqb (dot q v x) b) (λ x. eqb (dot q v x) b) rows
           (All-from_get_or (λ x. (eqb (dot q u x) a && eqb (dot q v x) b) ≡ eqb (dot q v x) b) rows []
-          (λ k low. cc (eq-eqb _ _ (at k low ∙ e)))) in
-          cc
+          (λ k low. cc (eq-eqb _ _ (at k low ∙ e)))))
       | inr ne ↦
-          let none : count_of q u a rows ≡ 0 =
+          let none =
           count_agree (λ x. eqb (dot q u x) a) (λ x. false) rows
           (All-from_get_or (λ x. eqb (dot q u x) a ≡ false) rows []
           (λ k low. ne_eqb _ _ (λ e. ne (sym (at k low) ∙ e))))
           ∙ sum_by-zero rows in
-          let both : joint_count q rows u v a b ≡ 0 =
-          count_agree (λ x. eqb (dot q u x) a && eqb (dot q v x) b) (λ x. false) rows
+          ap (λ n. length rows * n) (count_agree (λ x. eqb (dot q u x) a && eqb (dot q v x) b) (λ x. false) rows
           (All-from_get_or (λ x. (eqb (dot q u x) a && eqb (dot q v x) b) ≡ false) rows []
           (λ k low. cc (ne_eqb _ _ (λ e. ne (sym (at k low) ∙ e)))))
-          ∙ sum_by-zero rows in
-          ap (λ (n : ℕ). length rows * n) both ∙ omega arith ∙ ap (λ (n : ℕ). n * count_of q v b rows) (sym none)
+          ∙ sum_by-zero rows) ∙ omega arith ∙ ap (λ n. n * count_of q v b rows) (sym none)
     ]
       where
         at : (k : ℕ) → k < length rows → dot q u (get_or rows k []) ≡ h.0
@@ -141,7 +140,7 @@ module _ (q : ℕ) (f : IsField q) where
     not_constant apart c some low h =
         let test : ℕ → Bool = λ c. is_constant q (off c) rows in
         let yes = list_any_at test (range_with_len 1 (q - 1)) (c - 1) 0 (omega (arith, length-range_with_len 1 (q - 1)))
-        (subst (λ (c : ℕ). test c ≡ true)
+        (subst (λ c. test c ≡ true)
         (sym (get_or-range_with_len 1 (q - 1) (c - 1) 0 (omega arith) ∙ omega arith))
         ((constant_decides q f (off c) rows).1 h)) in
         both_ways _ apart yes
@@ -159,7 +158,7 @@ module _ (q : ℕ) (f : IsField q) where
         | inr ne ↦
             elim (each (off c)) [
               | inl k ↦ absurd (not_constant apart c (omega arith) hc k)
-              | inr b ↦ balanced_count q f (off c) rows b y low
+              | inr b ↦ balanced_count q f _ rows b y low
             ]
       ]
         where
@@ -202,31 +201,29 @@ rows_of : (q : ℕ) (f : IsField q) (rows : List (List ℕ)) (w : List ℕ)
 rows_of q f [] w h = h
 rows_of q f (x0 ∷ rows) w h = elim h [
   | inl k ↦ inl (row_constant q f x0 (x0 ∷ rows) w k)
-  | inr b ↦ inr (row_balanced q f x0 (x0 ∷ rows) w b)
+  | inr b ↦ inr (row_balanced q f x0 _ w b)
 ]
 
 pub never_partial : (plan : PlanView) → IsPlan plan → is_regular_plan plan.q plan.rows ≡ true → (u v : List ℕ)
     → kinship plan.q plan.rows u v ≡ Partial → ⊥
 never_partial plan h regular u v partial =
-    let q = plan.q in
     let s = length plan.names in
-    let D = row_differences q plan.rows in
-    let f = is_order-field q h.order in
+    let D = row_differences plan.q plan.rows in
+    let f = is_order-field plan.q h.order in
     let hd = plan_differences plan h in
     let z = plan_zeros plan h D refl in
-    let last = stage_at q f s D hd z s (omega arith) in
-    let full : 0 < length D = omega (arith, differences_len q f plan.rows) in
-    let even = (regular_even plan h).0 regular in
-    let each = λ (w : List ℕ). rows_of q f plan.rows w
-    (constant_or_balanced q f s D last.0 (basic_among q s D s) hd last.1 z full even w) in
-    let rest = cond (are_orthogonal q plan.rows u v) Orthogonal Partial in
-    elim (cases_Bool (is_aliased q plan.rows u v)) [
-      | inl t ↦ let bad : Aliased ≡ Partial = sym (cond-true (is_aliased q plan.rows u v) Aliased rest t) ∙ partial in
+    let last = stage_at plan.q f s D hd z s (omega arith) in
+    let each = λ (w : List ℕ). rows_of plan.q f plan.rows w
+    (constant_or_balanced plan.q f s D last.0 _ hd last.1 z (omega (arith, differences_len plan.q f plan.rows))
+    ((regular_even plan h).0 regular) w) in
+    let rest = cond (are_orthogonal plan.q plan.rows u v) Orthogonal Partial in
+    elim (cases_Bool (is_aliased plan.q plan.rows u v)) [
+      | inl t ↦ let bad = sym (cond-true _ Aliased rest t) ∙ partial in
           cc bad
       | inr apart ↦
-          let bad : Orthogonal ≡ Partial =
-          sym (cond-false (is_aliased q plan.rows u v) Aliased rest apart
-          ∙ cond-true (are_orthogonal q plan.rows u v) Orthogonal Partial (orthogonal q f plan.rows u v each apart)) ∙
+          let bad =
+          sym (cond-false _ Aliased rest apart
+          ∙ cond-true _ Orthogonal Partial (orthogonal plan.q f plan.rows u v each apart)) ∙
           partial in
           cc bad
     ]

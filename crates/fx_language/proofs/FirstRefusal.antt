@@ -1,11 +1,10 @@
 -- The first refusal of a program is by the number of a rule.
 use Rattle.std.proofs.Common.{◌≡◌, ℕ, ◌+◌, Bool, true, false, not, ◌&&◌, List, [], ◌∷◌, Option, Some, None, refl}
-use Rattle.std.specs.Prelude.{IfSome, nat_le, nat_lt, if◌then◌else◌}
+use Rattle.std.specs.Prelude.{IfSome, nat_le, if◌then◌else◌}
 use Rattle.fx_language.specs.declared.symbol.Symbol.{Symbol}
-use Rattle.fx_language.specs.declared.symbol.Symbol.TheVariants.{Proc, Run, Factex}
+use Rattle.fx_language.specs.declared.symbol.Symbol.TheVariants.{Proc, Factex}
 use Rattle.fx_language.specs.Symbols.{is, is_once}
-use Rattle.fx_language.specs.Refusals.{is_rule, refused}
-use Rattle.fx_language.specs.Grammar.{program}
+use Rattle.fx_language.specs.Refusals.{is_rule}
 use Rattle.fx_language.proofs.Rules.{refused_by_a_rule}
 use Rattle.fx_language.specs.Repeats.{is_start, has_statement, procs, begins_with, awaits_name, is_option_in}
 use Rattle.fx_language.specs.Repeats.{has_option, rule_at, or_later, repeated}
@@ -18,7 +17,7 @@ either false code other h k = k
 
 rules : (seen : List Symbol) (s : Symbol) (rest : List Symbol) → IfSome (rule_at seen s rest) (λ c. is_rule c ≡ true)
 rules seen s rest =
-    either (is_start seen && is_once s && has_statement Run seen) 27 _ refl
+    either _ 27 _ refl
     (either (is_start seen && is_once s && has_statement s seen) 26 _ refl
     (either (is_start seen && is Proc s && begins_with Factex rest && nat_le 100 (procs seen)) 32 _ refl
     (either (not (awaits_name seen) && is_option_in seen s && has_option s seen) 28 None refl tt)))
@@ -39,7 +38,7 @@ one_of : (g r : Option (ℕ × ℕ)) → IfSome g (λ x. is_rule x.0 ≡ true) �
     → IfSome (earlier g r) (λ x. is_rule x.0 ≡ true)
 one_of None r h k = k
 one_of (Some g) None h k = h
-one_of (Some g) (Some r) h k = by (nat_lt r.1 g.1)
+one_of (Some g) (Some r) h k = by _
   where
     by : (b : Bool) → IfSome (if b then Some r else Some g) (λ (x : ℕ × ℕ). is_rule x.0 ≡ true)
     by true = k
@@ -47,4 +46,4 @@ one_of (Some g) (Some r) h k = by (nat_lt r.1 g.1)
 
 pub first_by_a_rule : (symbols : List Symbol) → IfSome (first_refusal symbols) (λ r. is_rule r.0 ≡ true)
 first_by_a_rule symbols =
-    one_of (refused 0 program symbols) (repeated [] 0 symbols) (refused_by_a_rule symbols) (repeats [] 0 symbols)
+    one_of _ _ (refused_by_a_rule symbols) (repeats [] 0 symbols)

@@ -1,5 +1,5 @@
 -- Texts of a description that lack a symbol.
-use Rattle.std.proofs.Common.{◌≡◌, Bool, true, false, not, ◌&&◌, ◌||◌, List, [], ◌∷◌, ◌++◌, refl, ap, ap₂, ◌∙◌, inl}
+use Rattle.std.proofs.Common.{◌≡◌, Bool, true, false, not, ◌&&◌, List, [], ◌∷◌, ◌++◌, refl, ap, ◌∙◌, inl}
 use Rattle.std.proofs.Common.{inr, sym}
 use Rattle.std.specs.List.{AllByRecursion, flat_map, list_any}
 use Rattle.std.proofs.lemmas.Bool.{and_parts, both_ways, cases_Bool, not-true}
@@ -22,29 +22,29 @@ lacks t (Fault code test) = true
 module _ (t : Symbol) where
   other : (test : Symbol → Bool) (s : Symbol) → not (test t) ≡ true → test s ≡ true → is t s ≡ false
   other test s lack passed = elim (cases_Bool (is t s)) [
-    | inl it ↦ absurd (both_ways (test t) (not-true (test t) lack) (ap test (sym (symbol_is t s it)) ∙ passed))
+    | inl it ↦ absurd (both_ways _ (not-true _ lack) (ap test (sym (symbol_is t s it)) ∙ passed))
     | inr differs ↦ differs
   ]
 
   both : (x y : List Symbol) → list_any (is t) x ≡ false → list_any (is t) y ≡ false → list_any (is t) (x ++ y) ≡ false
-  both x y hx hy = list_any-append (is t) x y ∙ ap₂ (λ a b. a || b) hx hy
+  both x y hx hy = cc (list_any-append (is t) x y)
 
   flat : (a : Shape) → ((x : List Symbol) → Matches a x → list_any (is t) x ≡ false) → (parts : List (List Symbol))
       → AllByRecursion (Matches a) parts
       → list_any (is t) (flat_map (λ (part : List Symbol). part) parts) ≡ false
   flat a each [] h = refl
   flat a each (part ∷ rest) h =
-      both part (flat_map (λ (part : List Symbol). part) rest) (each part h.0) (flat a each rest h.1)
+      both part _ (each part h.0) (flat a each rest h.1)
 
   pub none : (a : Shape) (text : List Symbol) → lacks t a ≡ true → Matches a text → list_any (is t) text ≡ false
   none Never text l m = absurd m
-  none Empty text l m = rw m refl
-  none (One test) text l (s, passed, e) = ap (list_any (is t)) e ∙ ap (λ b. b || false) (other test s l passed)
+  none Empty text l m = rw m
+  none (One test) text l (s, passed, e) = cc (other test s l passed)
   none (Before a b) text l (x, y, m, n, e) =
-      let parts = and_parts (lacks t a) (lacks t b) l in
-      ap (list_any (is t)) e ∙ both x y (none a x parts.0 m) (none b y parts.1 n)
+      let parts = and_parts _ _ l in
+      cc (both x y (none a x parts.0 m) (none b y parts.1 n))
   none (Either a b) text l m =
-      let parts = and_parts (lacks t a) (lacks t b) l in
+      let parts = and_parts _ _ l in
       elim m [ inl x ↦ none a text parts.0 x | inr y ↦ none b text parts.1 y ]
-  none (Many a) text l (parts, all, e) = ap (list_any (is t)) e ∙ flat a (λ x m. none a x l m) parts all
+  none (Many a) text l (parts, all, e) = cc (flat a (λ x m. none a x l m) parts all)
   none (Fault code test) text l m = absurd m

@@ -39,7 +39,7 @@ without a t l m = none symbol.Semicolon a t l m
 both_without : (t x y : List Symbol) → t ≡ x ++ y → list_any (is symbol.Semicolon) x ≡ false
     → list_any (is symbol.Semicolon) y ≡ false → list_any (is symbol.Semicolon) t ≡ false
 both_without t x y e h k =
-    ap (list_any (is symbol.Semicolon)) e ∙ list_any-append (is symbol.Semicolon) x y ∙ ap₂ (λ a b. a || b) h k
+    cc (list_any-append (is symbol.Semicolon) x y)
 
 named_inside : (c : ℕ) (a : Shape) (t : List Symbol) (s : Symbol) → inside a ≡ true → Names c a t s
     → list_any (is symbol.Semicolon) t ≡ false
@@ -54,7 +54,7 @@ named_inside c (Either a b) t s h (inl k) = named_inside c a t s (and_parts _ _ 
 named_inside c (Either a b) t s h (inr k) = named_inside c b t s (and_parts _ _ h).1 k
 named_inside c (Many a) t s h (x, y, m, k, e) =
     both_without t x y e (without (Many a) x (and_parts _ _ h).0 m) (named_inside c a y s (and_parts _ _ h).1 k)
-named_inside c (Fault code test) t s h (e, passes, same) = ap (list_any (is symbol.Semicolon)) e
+named_inside c (Fault code test) t s h (e, passes, same) = cc
 
 -- the code by which a description is guarded is of the symbols against which it is guarded
 guarded_named : (c : ℕ) (test : Symbol → Bool) (a : Shape) (t : List Symbol) (s : Symbol) → lacks_code c a ≡ true
@@ -76,8 +76,8 @@ in_statement_of : (word w : Symbol) (t x y rest : List Symbol) → w ≡ word �
 in_statement_of word w t x y rest is_word e ex same lacking = (
   [],
   inl refl,
-  e ∙ ap (λ (l : List Symbol). l ++ y) ex ∙ ap₂ (λ (z : Symbol) (l : List Symbol). z ∷ l) is_word same,
-  ap (list_any (is symbol.Semicolon)) (sym same) ∙ lacking,
+  cc,
+  cc,
 )
 
 -- PROC
@@ -104,9 +104,7 @@ behind_minabs t s (inl (inl (inl h))) = absurd h
 behind_minabs t s (inl (inl (inr (a, b, (sl, tsl, esl), inl h, e1)))) = absurd h
 behind_minabs t s (inl (inl (inr (a, b, (sl, tsl, esl), inr (c, d, (mi, tmi, emi), inl h, e2), e1)))) = absurd h
 behind_minabs t s (inl (inl (inr (a, b, (sl, tsl, esl), inr (c, d, (mi, tmi, emi), inr (e0, opens, same), e2), e1)))) = (
-  e1 ∙ ap (λ (l : List Symbol). l ++ b) esl ∙ ap (λ (l : List Symbol). sl ∷ l)
-      (e2 ∙ ap (λ (l : List Symbol). l ++ d) emi ∙ ap (λ (l : List Symbol). mi ∷ l) e0)
-      ∙ ap₂ (λ (u v : Symbol). u ∷ v ∷ []) (symbol_is symbol.Slash sl tsl) (symbol_is symbol.Minabs mi tmi),
+  cc (symbol_is symbol.Slash sl tsl, symbol_is symbol.Minabs mi tmi),
   opens,
 )
 behind_minabs t s (inl (inr h)) = absurd h
@@ -121,9 +119,9 @@ in_model t s (inr (x, y, (p, passed, ex), inr (u, v, m, h, ev), e)) =
       last.1,
       (
         u,
-        inl (in_statement_of symbol.Model p t x y (u ++ symbol.Slash ∷ symbol.Minabs ∷ [])
+        inl (in_statement_of symbol.Model p t x y _
             (symbol_is symbol.Model p passed) e ex
-            (ev ∙ ap (λ (l : List Symbol). u ++ l) last.0)
+            (ev ∙ ap (λ l. u ++ l) last.0)
             (named_inside 24 model_rest y s refl (inr (u, v, m, h, ev)))),
       ),
     ))
@@ -135,16 +133,16 @@ behind_section : (t : List Symbol) (s : Symbol) → Names 24 examine_word t s
 behind_section t s (inl (inl h)) = absurd h
 behind_section t s (inl (inr (a, b, (w, tw, ew), inl h, e))) = absurd h
 behind_section t s (inl (inr (a, b, (w, tw, ew), inr (e0, opens, same), e))) = (
-  inl (e ∙ ap (λ (l : List Symbol). l ++ b) ew
-      ∙ ap₂ (λ (z : Symbol) (l : List Symbol). z ∷ l) (symbol_is symbol.Aliasing w tw) e0),
+  inl (e ∙ ap (λ l. l ++ b) ew
+      ∙ ap₂ (λ z l. z ∷ l) (symbol_is symbol.Aliasing w tw) e0),
   opens,
 )
 behind_section t s (inr (inr h)) = absurd h
 behind_section t s (inr (inl (inl h))) = absurd h
 behind_section t s (inr (inl (inr (a, b, (w, tw, ew), inl h, e)))) = absurd h
 behind_section t s (inr (inl (inr (a, b, (w, tw, ew), inr (e0, opens, same), e)))) = (
-  inr (e ∙ ap (λ (l : List Symbol). l ++ b) ew
-      ∙ ap₂ (λ (z : Symbol) (l : List Symbol). z ∷ l) (symbol_is symbol.Aberration w tw) e0),
+  inr (e ∙ ap (λ l. l ++ b) ew
+      ∙ ap₂ (λ z l. z ∷ l) (symbol_is symbol.Aberration w tw) e0),
   opens,
 )
 
@@ -162,8 +160,8 @@ in_examine t s (inr (x, y, (p, passed, ex), inl (u, v, m, h, ev), e)) = of_secti
           opens,
           (
             u,
-            inr (inl (in_statement_of symbol.Examine p t x y (u ++ symbol.Aliasing ∷ [])
-                (symbol_is symbol.Examine p passed) e ex (ev ∙ ap (λ (l : List Symbol). u ++ l) last) lacking)),
+            inr (inl (in_statement_of symbol.Examine p t x y _
+                (symbol_is symbol.Examine p passed) e ex (ev ∙ ap (λ l. u ++ l) last) lacking)),
           ),
         ))
     of_section (inr last, opens) =
@@ -171,8 +169,8 @@ in_examine t s (inr (x, y, (p, passed, ex), inl (u, v, m, h, ev), e)) = of_secti
           opens,
           (
             u,
-            inr (inr (in_statement_of symbol.Examine p t x y (u ++ symbol.Aberration ∷ [])
-                (symbol_is symbol.Examine p passed) e ex (ev ∙ ap (λ (l : List Symbol). u ++ l) last) lacking)),
+            inr (inr (in_statement_of symbol.Examine p t x y _
+                (symbol_is symbol.Examine p passed) e ex (ev ∙ ap (λ l. u ++ l) last) lacking)),
           ),
         ))
 
@@ -194,8 +192,7 @@ further : (before t rest : List Symbol) (word : Symbol) → IsAtStart before →
 further before t rest word start (front, begun, e, lacking) = (
   before ++ front,
   joined before front start begun,
-  ap (λ (l : List Symbol). before ++ l) e ∙ sym
-      (append_assoc before front (word ∷ rest)),
+  cc (append_assoc before front (word ∷ rest)),
   lacking,
 )
 
@@ -204,21 +201,19 @@ after_whole before t s start (inl (unit, begun)) = inl (unit, joined before t st
 after_whole before t s start (inr (inl (left, rest, h))) =
     inr (inl (left, rest, further before t rest symbol.Proc start h))
 after_whole before t s start (inr (inr (opens, (rest, inl h)))) =
-    inr (inr (opens, (rest, inl (further before t (rest ++ symbol.Slash ∷ symbol.Minabs ∷ []) symbol.Model start h))))
+    inr (inr (opens, (rest, inl (further before t _ symbol.Model start h))))
 after_whole before t s start (inr (inr (opens, (rest, inr (inl h))))) =
-    inr (inr (opens, (rest, inr (inl (further before t (rest ++ symbol.Aliasing ∷ []) symbol.Examine start h)))))
+    inr (inr (opens, (rest, inr (inl (further before t _ symbol.Examine start h)))))
 after_whole before t s start (inr (inr (opens, (rest, inr (inr h))))) =
-    inr (inr (opens, (rest, inr (inr (further before t (rest ++ symbol.Aberration ∷ []) symbol.Examine start h)))))
+    inr (inr (opens, (rest, inr (inr (further before t _ symbol.Examine start h)))))
 
 in_step : (t : List Symbol) (s : Symbol) → Names 24 whole_step t s → IsLeftOut t s
 in_step t s h = elim (from_parts 24 step (maybe (key symbol.Quit ▸ key symbol.Semicolon ▸ between)) t s h) [
   | inl k ↦ elim (from_parts 24 proc (Many statement) t s k) [
     | inl p ↦ in_proc t s p
     | inr p ↦
-        let q = p.3 in
-        subst (λ (l : List Symbol). IsLeftOut l s) (sym (p.4 ∙ ap (λ (l : List Symbol). p.0 ++ l) q.4))
-        (after_whole p.0 (q.0 ++ q.1) s (proc_start p.0 p.2)
-        (after_whole q.0 q.1 s (many statement statement_start q.0 q.2) (in_statement q.1 s q.3)))
+        rw (p.4 ∙ ap (λ l. p.0 ++ l) p.3.4) (after_whole p.0 _ s (proc_start p.0 p.2)
+        (after_whole p.3.0 p.3.1 s (many statement statement_start p.3.0 p.3.2) (in_statement p.3.1 s p.3.3)))
   ]
   | inr k ↦ absurd (no_code 24 (maybe (key symbol.Quit ▸ key symbol.Semicolon ▸ between)) k.1 s refl k.3)
 ]
@@ -236,16 +231,14 @@ after_steps : (t : List Symbol) (s : Symbol) → Names 24 (Many whole_step ▸ (
 after_steps t s h = elim (from_parts 24 (Many whole_step) (key symbol.End ∣ unknown) t s h) [
   | inl k ↦ subst (λ (l : List Symbol). IsLeftOut l s) (sym k.4)
       (after_whole k.0 k.1 s (many whole_step whole_start k.0 k.2) (in_step k.1 s k.3))
-  | inr k ↦ subst (λ (l : List Symbol). IsLeftOut l s) (sym k.4)
-      (after_whole k.0 k.1 s (many whole_step whole_start k.0 k.2) (at_end k.1 s k.3))
+  | inr k ↦ rw k.4 (after_whole k.0 k.1 s (many whole_step whole_start k.0 k.2) (at_end k.1 s k.3))
 ]
 
 -- the law: where the grammar names 24, the symbol is left out of the language
 pub left_out : (t : List Symbol) (s : Symbol) → Names 24 program t s → IsLeftOut t s
 left_out t s h = elim (from_parts 24 between (Many whole_step ▸ (key symbol.End ∣ unknown)) t s h) [
   | inl k ↦ absurd (no_code 24 between t s refl k)
-  | inr k ↦ subst (λ (l : List Symbol). IsLeftOut l s) (sym k.4)
-      (after_whole k.0 k.1 s (between_start k.0 k.2) (after_steps k.1 s k.3))
+  | inr k ↦ rw k.4 (after_whole k.0 k.1 s (between_start k.0 k.2) (after_steps k.1 s k.3))
 ]
 
 -- no other code is named
@@ -269,10 +262,10 @@ two_codes c (Before a b) t s l (inr (x, y, m, h, e)) = two_codes c b y s (and_pa
 two_codes c (Either a b) t s l (inl h) = two_codes c a t s (and_parts _ _ l).0 h
 two_codes c (Either a b) t s l (inr h) = two_codes c b t s (and_parts _ _ l).1 h
 two_codes c (Many a) t s l (x, y, m, h, e) = two_codes c a y s l h
-two_codes c (Fault code test) t s l (e, passes, same) = subst (λ z. ((z == 1) || (z == 24)) ≡ true) same l
+two_codes c (Fault code test) t s l (e, passes, same) = rw same at l
 
 pub one_of_two : (c : ℕ) (t : List Symbol) (s : Symbol) → Names c program t s → (c ≡ 1) ⊎ (c ≡ 24)
-one_of_two c t s h = elim (or_cases (c == 1) (c == 24) (two_codes c program t s refl h)) [
+one_of_two c t s h = elim (or_cases _ _ (two_codes c program t s refl h)) [
   | inl one ↦ inl (eqb-true c 1 one)
   | inr other ↦ inr (eqb-true c 24 other)
 ]

@@ -1,6 +1,6 @@
 -- What the pass keeps is what the rules ask of the symbols that were seen.
 use Rattle.std.proofs.Common.{◌≡◌, ℕ, ◌+◌, ◌<◌, Bool, true, false, cond, ◌&&◌, ◌||◌, not, List, [], ◌∷◌, length, get_or}
-use Rattle.std.proofs.Common.{take, drop, reverse, Some, None, refl, sym, ap, ap₂, ◌∙◌, arith}
+use Rattle.std.proofs.Common.{take, drop, reverse, Some, None, refl, ap, ◌∙◌, arith}
 use Rattle.std.specs.Prelude.{if◌then◌else◌, count_by}
 use Rattle.std.specs.List.{list_any}
 use Rattle.std.proofs.Math.Seq.{drop-cons, take-suc}
@@ -8,12 +8,12 @@ use Rattle.std.proofs.Math.Numerals.{add-one}
 use Rattle.std.proofs.lemmas.List.{reverse-append}
 use Rattle.std.proofs.lemmas.List.Sums.{sum_by-cons}
 use Rattle.fx_language.specs.declared.symbol.Symbol.{Symbol}
-use Rattle.fx_language.specs.declared.symbol.Symbol.TheVariants.{Proc, Factex, Nodes, Output, Quit, Run, Semicolon}
+use Rattle.fx_language.specs.declared.symbol.Symbol.TheVariants.{Proc, Factex, Output, Quit, Run, Semicolon}
 use Rattle.fx_language.specs.declared.symbol_set.SymbolSet.{SymbolSet}
-use Rattle.fx_language.specs.Symbols.{is, is_output_option}
+use Rattle.fx_language.specs.Symbols.{is}
 use Rattle.fx_language.specs.SymbolSets.{empty, has, including}
-use Rattle.fx_language.specs.Repeats.{is_start, is_in, awaits_name, first_words, step_words, has_statement}
-use Rattle.fx_language.specs.Repeats.{has_option, is_option_in, begins_with, rule_at, repeated, or_later}
+use Rattle.fx_language.specs.Repeats.{is_start, is_in, first_words, step_words, has_statement}
+use Rattle.fx_language.specs.Repeats.{has_option, is_option_in, begins_with, rule_at, repeated}
 use Rattle.fx_language.specs.Pasts.{past_of, past_after, step_set, begun, option_set, is_option_of, rule_code}
 use Rattle.fx_language.proofs.SameSymbol.{symbol_is}
 use Rattle.fx_language.proofs.SymbolSets.{has_none, has_including}
@@ -25,19 +25,19 @@ step_next : (start ends : Bool) (word s : Symbol) (words : List Symbol) (set : S
     ≡ list_any (is word) (step_words (if start then s ∷ words else words))
 step_next false ends word s words set e h = h
 step_next true true word s words set e h = rw e (has_none word)
-step_next true false word s words set e h = rw e (has_including s word set ∙ ap (λ b. is word s || b) h)
+step_next true false word s words set e h = rw e (cc (has_including s word set))
 
 in_step : (word : Symbol) (seen : List Symbol) → has (step_set seen) word ≡ has_statement word seen
 in_step word [] = has_none word
 in_step word (s ∷ seen) =
-    step_next (is_start seen) (is Proc s || is Quit s) word s (first_words seen) (step_set seen) refl (in_step word seen)
+    step_next _ _ word s _ _ refl (in_step word seen)
 
 -- the options of the statement
 option_next : (ends named : Bool) (word s : Symbol) (set : SymbolSet) (had : Bool) → has set word ≡ had
     → has (if ends then empty else (if named then set else including s set)) word
     ≡ (not ends && ((is word s && not named) || had))
 option_next true named word s set had h = has_none word
-option_next false true word s set had h = by (is word s)
+option_next false true word s set had h = by _
   where
     by : (b : Bool) → has set word ≡ ((b && false) || had)
     by true = h
@@ -51,22 +51,22 @@ option_next false false word s set had h = has_including s word set ∙ by (is w
 in_statement : (word : Symbol) (seen : List Symbol) → has (option_set seen) word ≡ has_option word seen
 in_statement word [] = has_none word
 in_statement word (s ∷ seen) =
-    option_next (is Semicolon s) (awaits_name seen) word s (option_set seen) (has_option word seen)
+    option_next _ _ word s _ _
     (in_statement word seen)
 
 -- the first word of the statement
 first_next : (start ends : Bool) (word s first : Symbol) (had : Bool) → is word Semicolon ≡ false
     → is Semicolon s ≡ ends → had ≡ is word first
     → (not ends && (if start then is word s else had)) ≡ is word (if start || ends then s else first)
-first_next true true word s first had other e h = sym (ap (is word) (symbol_is Semicolon s e) ∙ other)
-first_next false true word s first had other e h = sym (ap (is word) (symbol_is Semicolon s e) ∙ other)
+first_next true true word s first had other e h = cc (symbol_is Semicolon s e)
+first_next false true word s first had other e h = cc (symbol_is Semicolon s e)
 first_next true false word s first had other e h = refl
 first_next false false word s first had other e h = h
 
 first_is : (word : Symbol) → is word Semicolon ≡ false → (seen : List Symbol) → is_in word seen ≡ is word (begun seen)
-first_is word other [] = sym other
+first_is word other [] = cc
 first_is word other (s ∷ seen) =
-    first_next (is_start seen) (is Semicolon s) word s (begun seen) (is_in word seen) other refl
+    first_next _ _ word s _ _ other refl
     (first_is word other seen)
 
 count_next : (proc : Bool) (s : Symbol) (words : List Symbol) → is Proc s ≡ proc
@@ -84,25 +84,24 @@ counted true proc s words e = count_next proc s words e
 
 -- what is kept after one more symbol
 pub past_next : (s : Symbol) (seen : List Symbol) → past_of (s ∷ seen) ≡ past_after (past_of seen) s
-past_next s seen = let count = counted (is_start seen) (is Proc s) s (first_words seen) refl in cc
+past_next s seen = cc (counted (is_start seen) (is Proc s) s (first_words seen) refl)
 
 option_is : (s : Symbol) (seen : List Symbol) → is_option_in seen s ≡ is_option_of (begun seen) s
 option_is s seen =
-    ap₂ (λ a b. if is Nodes s then a else is_output_option s && b)
-    (first_is Proc refl seen) (first_is Output refl seen)
+    cc (first_is Proc refl seen, first_is Output refl seen)
 
 pub rule_is : (seen rest : List Symbol) (s : Symbol)
     → rule_at seen s rest ≡ rule_code (past_of seen) s (begins_with Factex rest)
 rule_is seen rest s =
-    rw (in_step Run seen, in_step s seen, option_is s seen, in_statement s seen) refl
+    rw (in_step Run seen, in_step s seen, option_is s seen, in_statement s seen)
 
 refused_here : (seen rest : List Symbol) (s : Symbol) (i code : ℕ) → rule_at seen s rest ≡ Some code
     → repeated seen i (s ∷ rest) ≡ Some (code, i)
-refused_here seen rest s i code e = ap (λ r. or_later i r (repeated (s ∷ seen) (i + 1) rest)) e
+refused_here seen rest s i code e = cc
 
 refused_later : (seen rest : List Symbol) (s : Symbol) (i : ℕ) → rule_at seen s rest ≡ None
     → repeated seen i (s ∷ rest) ≡ repeated (s ∷ seen) (i + 1) rest
-refused_later seen rest s i e = ap (λ r. or_later i r (repeated (s ∷ seen) (i + 1) rest)) e
+refused_later seen rest s i e = cc
 
 module _ (symbols : List Symbol) (i : ℕ) (h : i < length symbols) where
   abbrev seen : List Symbol
@@ -112,22 +111,20 @@ module _ (symbols : List Symbol) (i : ℕ) (h : i < length symbols) where
   next = get_or symbols i Proc
 
   seen_next : reverse (take (i + 1) symbols) ≡ next ∷ seen
-  seen_next = rw (add-one, take-suc symbols i Proc h, reverse-append) refl
+  seen_next = rw (add-one, take-suc symbols i Proc h, reverse-append)
 
   rest_next : drop i symbols ≡ next ∷ drop (i + 1) symbols
   rest_next = rw (add-one i) (drop-cons symbols i Proc h)
 
   pub past_here : past_after (past_of seen) next ≡ past_of (reverse (take (i + 1) symbols))
-  past_here = sym (past_next next seen) ∙ ap past_of (sym seen_next)
+  past_here = cc (past_next next seen, seen_next)
 
   pub repeated_here : (code : ℕ) → rule_at seen next (drop (i + 1) symbols) ≡ Some code
       → repeated seen i (drop i symbols) ≡ Some (code, i)
   repeated_here code e =
-      ap (λ l. repeated seen i l) rest_next ∙ refused_here seen (drop (i + 1) symbols) next i code e
+      cc (rest_next, refused_here seen _ next i code e)
 
   pub repeated_later : rule_at seen next (drop (i + 1) symbols) ≡ None
       → repeated seen i (drop i symbols) ≡ repeated (reverse (take (i + 1) symbols)) (i + 1) (drop (i + 1) symbols)
   repeated_later e =
-      ap (λ l. repeated seen i l) rest_next
-      ∙ refused_later seen (drop (i + 1) symbols) next i e
-      ∙ ap (λ l. repeated l (i + 1) (drop (i + 1) symbols)) (sym seen_next)
+      cc (rest_next, refused_later seen _ next i e, seen_next)

@@ -5,10 +5,9 @@ use Rattle.std.specs.Option.{option_or}
 use Rattle.std.proofs.lemmas.Bool.{and_parts}
 use Rattle.fx_language.specs.declared.symbol.Symbol.{Symbol}
 use Rattle.fx_language.specs.declared.symbol.Symbol.TheVariants.{End}
-use Rattle.fx_language.specs.Symbols.{is_word}
 use Rattle.fx_language.specs.Shapes.{Shape, Never, Empty, One, Before, Either, Many, Fault, derivative, may_be_empty}
 use Rattle.fx_language.specs.Shapes.{or_else, fault_code, ◌▸◌}
-use Rattle.fx_language.specs.Refusals.{is_rule, allows, allows_option, code_of, refused}
+use Rattle.fx_language.specs.Refusals.{is_rule, code_of, refused}
 use Rattle.fx_language.specs.Grammar.{program}
 
 -- each fault that the description names is that of a rule
@@ -34,8 +33,8 @@ by_test : (a : Shape) → names_rules a ≡ true → NamesRules a
 by_test Never h = tt
 by_test Empty h = tt
 by_test (One test) h = tt
-by_test (Before a b) h = let p = and_parts (names_rules a) (names_rules b) h in (by_test a p.0, by_test b p.1)
-by_test (Either a b) h = let p = and_parts (names_rules a) (names_rules b) h in (by_test a p.0, by_test b p.1)
+by_test (Before a b) h = let p = and_parts _ _ h in (by_test a p.0, by_test b p.1)
+by_test (Either a b) h = let p = and_parts _ _ h in (by_test a p.0, by_test b p.1)
 by_test (Many a) h = by_test a h
 by_test (Fault code test) h = h
 
@@ -102,7 +101,7 @@ one_of false x y h k = k
 later : (s : Symbol) (a : Shape) → NamesRules a → NamesRules (derivative s a)
 later s Never h = tt
 later s Empty h = tt
-later s (One test) h = one_of (test s) Empty Never tt tt
+later s (One test) h = one_of _ Empty Never tt tt
 later s (Before a b) h =
     let first = before (derivative s a) b (later s a h.0) h.1 in
     one_of (may_be_empty a) (or_else (derivative s a ▸ b) (derivative s b)) (derivative s a ▸ b)
@@ -123,23 +122,23 @@ named s Never h = tt
 named s Empty h = tt
 named s (One test) h = tt
 named s (Before a b) h =
-    first (fault_code s a) (cond (may_be_empty a) (fault_code s b) None) (named s a h.0)
+    first _ _ (named s a h.0)
     (by (may_be_empty a) (named s b h.1))
   where
     by : (e : Bool) → IfSome (fault_code s b) (λ c. is_rule c ≡ true)
         → IfSome (cond e (fault_code s b) None) (λ c. is_rule c ≡ true)
     by true k = k
     by false k = tt
-named s (Either a b) h = first (fault_code s a) (fault_code s b) (named s a h.0) (named s b h.1)
+named s (Either a b) h = first _ _ (named s a h.0) (named s b h.1)
 named s (Many a) h = named s a h
-named s (Fault code test) h = by (test s)
+named s (Fault code test) h = by _
   where
     by : (b : Bool) → IfSome (cond b (Some code) None) (λ c. is_rule c ≡ true)
     by true = h
     by false = tt
 
 coded : (left : Shape) (s : Symbol) → NamesRules left → is_rule (code_of left s) ≡ true
-coded left s h = of_named (fault_code s left) (named s left h) (is_word s && allows_option left)
+coded left s h = of_named _ (named s left h) _
   where
     of_named : (c : Option ℕ) → IfSome c (λ c. is_rule c ≡ true) → (b : Bool)
         → is_rule (unwrap_or c (if b then 3 else 2)) ≡ true
@@ -150,12 +149,12 @@ coded left s h = of_named (fault_code s left) (named s left h) (is_word s && all
 each : (i : ℕ) (left : Shape) (symbols : List Symbol) → NamesRules left
     → IfSome (refused i left symbols) (λ r. is_rule r.0 ≡ true)
 unfolding refused
-each i left [] h = by (allows left End)
+each i left [] h = by _
   where
     by : (b : Bool) → IfSome (if b then None else Some (code_of left End, i)) (λ (r : ℕ × ℕ). is_rule r.0 ≡ true)
     by true = tt
     by false = coded left End h
-each i left (s ∷ rest) h = by (allows left s) (each (suc i) (derivative s left) rest (later s left h))
+each i left (s ∷ rest) h = by _ (each (suc i) (derivative s left) rest (later s left h))
   where
     by : (b : Bool) → IfSome (refused (suc i) (derivative s left) rest) (λ r. is_rule r.0 ≡ true)
         → IfSome (if b then refused (suc i) (derivative s left) rest else Some (code_of left s, i))

@@ -1,5 +1,5 @@
 -- A symbol that passes the test of another is that symbol.
-use Rattle.std.proofs.Common.{◌≡◌, true, get_or, refl, sym, ap, ◌∙◌}
+use Rattle.std.proofs.Common.{◌≡◌, true, get_or, refl}
 use Rattle.std.proofs.lemmas.Bool.{eqb-true}
 use Rattle.fx_language.specs.declared.symbol.Symbol.{Symbol}
 use Rattle.fx_language.specs.declared.symbol.Symbol.TheVariants.{Proc, End}
@@ -13,4 +13,4 @@ at_its_number s = refl
 
 pub symbol_is : (a s : Symbol) → is a s ≡ true → s ≡ a
 symbol_is a s h =
-    sym (at_its_number s) ∙ ap (λ n. get_or all_symbols n End) (sym (eqb-true (index a) (index s) h)) ∙ at_its_number a
+    cc (at_its_number s, eqb-true _ _ h, at_its_number a)

@@ -1,5 +1,5 @@
 -- A program is a sequence of statements, and then the end of its text.
-use Rattle.std.proofs.Common.{◌≡◌, List, [], ◌∷◌, ◌++◌, refl, sym, ap, ap₂, ◌∙◌, append_assoc, inl, inr}
+use Rattle.std.proofs.Common.{◌≡◌, List, [], ◌∷◌, ◌++◌, refl, append_assoc, inl, inr}
 use Rattle.std.specs.List.{AllByRecursion}
 use Rattle.fx_base.proofs.Lists.{each-append}
 use Rattle.fx_language.specs.declared.symbol.Symbol.{Symbol}
@@ -23,27 +23,25 @@ in_step (p ∷ parts) h = (inr (inr h.0), in_step parts h.1)
 -- a statement or a step, before others
 before : (p rest : List Symbol) → Matches top p → Sentences rest → Sentences (p ++ rest)
 before p rest (inl s) o =
-    record { parts = p ∷ o.parts; each = (inr (inr (inl s)), o.each); is = ap (λ (l : List Symbol). p ++ l) o.is }
+    record { parts = p ∷ o.parts; each = (inr (inr (inl s)), o.each); is = cc o.is }
 before p rest (inr (inl r)) o =
-    record { parts = p ∷ o.parts; each = (inr (inr (inr (inl r))), o.each); is = ap (λ (l : List Symbol). p ++ l) o.is }
+    record { parts = p ∷ o.parts; each = (inr (inr (inr (inl r))), o.each); is = cc o.is }
 before p rest (inr (inr (inl q))) o =
-    record { parts = p ∷ o.parts; each = (inl q, o.each); is = ap (λ (l : List Symbol). p ++ l) o.is }
+    record { parts = p ∷ o.parts; each = (inl q, o.each); is = cc o.is }
 before p rest (inr (inr (inr st))) o =
     let s = parts_of proc (Many statement) p st in
     let own = s.3.0 in
     let x = s.0 in
     record {
       parts = x ∷ (own ++ o.parts);
-      each = (inr (inl s.2), each-append (Matches sentence) own o.parts (in_step own s.3.1) o.each);
+      each = (inr (inl s.2), each-append _ own o.parts (in_step own s.3.1) o.each);
       is =
-          ap₂ (λ (l m : List Symbol). l ++ m) (s.4 ∙ ap (λ (l : List Symbol). x ++ l) s.3.2) o.is
-          ∙ append_assoc x (flat own) (flat o.parts)
-          ∙ ap (λ (l : List Symbol). x ++ l) (sym (flat_cat own o.parts));
+          cc (append_assoc x (flat own) (flat o.parts), flat_cat own o.parts);
     }
 
 all_before : (parts : List (List Symbol)) → AllByRecursion (Matches top) parts → Sentences (flat parts)
 all_before [] h = record { parts = []; each = tt; is = refl }
-all_before (p ∷ parts) h = before p (flat parts) h.0 (all_before parts h.1)
+all_before (p ∷ parts) h = before p _ h.0 (all_before parts h.1)
 
 -- and before the end of the text
 pub record IsSequence (text : List Symbol) : Type 0 where
@@ -60,7 +58,7 @@ sequence_of text m =
     record {
       sentences = w.0;
       last = w.1;
-      are = record { parts = o.parts; each = o.each; is = w.2.2 ∙ o.is };
+      are = record { parts = o.parts; each = o.each; is = cc };
       end = w.3;
       all = w.4;
     }

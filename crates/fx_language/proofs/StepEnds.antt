@@ -25,11 +25,11 @@ abbrev pub flat : List Text → Text
 flat parts = flat_map (λ part. part) parts
 
 cat : (a b : Shape) (x y : Text) → Matches a x → Matches b y → Matches (a ▸ b) (x ++ y)
-cat a b x y p q = sequence_of a b (x ++ y) (x, y, p, q, refl)
+cat a b x y p q = sequence_of a b _ (x, y, p, q, refl)
 
 pub flat_cat : (a b : List Text) → flat (a ++ b) ≡ flat a ++ flat b
 flat_cat [] b = refl
-flat_cat (p ∷ a) b = ap (λ (l : Text). p ++ l) (flat_cat a b) ∙ sym (append_assoc p (flat a) (flat b))
+flat_cat (p ∷ a) b = cc (flat_cat a b, append_assoc p (flat a) (flat b))
 
 record Outside (text : Text) : Type 0 where
   gaps : List Text
@@ -53,7 +53,7 @@ gap p text h o = record {
   blocks = o.blocks;
   each_gap = (h, o.each_gap);
   each_block = o.each_block;
-  is = ap (λ (l : Text). p ++ l) o.is ∙ sym (append_assoc p (flat o.gaps) (flat o.blocks));
+  is = cc (append_assoc p (flat o.gaps) (flat o.blocks));
 }
 
 regroup : (p text x own st last m : Text) → p ≡ x ++ own → text ≡ st ++ (last ++ m)
@@ -75,13 +75,13 @@ opened p text h o =
     ) in
     let body = cat proc (Many statement) x (flat own ++ flat o.statements) s.2 whole in
     let b : Text = (x ++ (flat own ++ flat o.statements)) ++ o.last in
-    let e : p ≡ x ++ flat own = s.4 ∙ ap (λ (l : Text). x ++ l) s.3.2 in (
+    let e = s.4 ∙ ap (λ l. x ++ l) s.3.2 in (
       b,
       o.blocks,
-      cat step (maybe (key Quit ▸ key Semicolon ▸ between)) (x ++ (flat own ++ flat o.statements)) o.last
+      cat step (maybe (key Quit ▸ key Semicolon ▸ between)) _ o.last
           body o.ends,
       o.each_block,
-      regroup p text x (flat own) (flat o.statements) o.last (flat o.blocks) e o.is,
+      regroup p text x _ _ o.last _ e o.is,
     )
 
 started : (p text : Text) → Matches step p → Inside text → Outside (p ++ text)
@@ -110,7 +110,7 @@ one_more p text h o = record {
   each_statement = (h, o.each_statement);
   ends = o.ends;
   each_block = o.each_block;
-  is = ap (λ (l : Text). p ++ l) o.is ∙ sym (append_assoc p (flat o.statements) (o.last ++ flat o.blocks));
+  is = cc (append_assoc p (flat o.statements) (o.last ++ flat o.blocks));
 }
 
 closed : (p text : Text) → Matches (key Quit ▸ key Semicolon) p → Outside text → Inside (p ++ text)
@@ -162,7 +162,7 @@ loose_is_program text (x, y, (parts, each, e), last, f) =
       flat o.blocks ++ y,
       (o.gaps, o.each_gap, refl),
       (flat o.blocks, y, (o.blocks, o.each_block, refl), inl last, refl),
-      f ∙ ap (λ (l : Text). l ++ y) (e ∙ o.is) ∙ append_assoc (flat o.gaps) (flat o.blocks) y,
+      cc (append_assoc (flat o.gaps) (flat o.blocks) y),
     )
 
 -- and the other way
@@ -183,10 +183,9 @@ quit_tops r text (inr e) o = record { parts = o.parts; each = o.each; is = rw e 
 quit_tops r text (inl (u, v, q, (w, z, s, (gaps, each, e), f), g)) o =
     record {
       parts = (u ++ w) ∷ (gaps ++ o.parts);
-      each = (inr (inr (inl (u, w, q, s, refl))), each-append (Matches top) gaps o.parts (sep_top gaps each) o.each);
+      each = (inr (inr (inl (u, w, q, s, refl))), each-append _ gaps o.parts (sep_top gaps each) o.each);
       is =
-          spread r text u v w z (flat gaps) (flat o.parts) g f e o.is
-          ∙ ap (λ (l : Text). (u ++ w) ++ l) (sym (flat_cat gaps o.parts));
+          cc (spread r text u v w z _ _ g f e o.is, flat_cat gaps o.parts);
     }
   where
     spread : (r text u v w z a b : Text) → r ≡ u ++ v → v ≡ w ++ z → z ≡ a → text ≡ b
@@ -197,11 +196,11 @@ blocks_tops : (blocks : List Text) → AllByRecursion (Matches block) blocks →
 blocks_tops [] h = record { parts = []; each = tt; is = refl }
 blocks_tops (b ∷ blocks) h =
     let x = parts_of step (maybe (key Quit ▸ key Semicolon ▸ between)) b h.0 in
-    let o = quit_tops x.1 (flat blocks) x.3 (blocks_tops blocks h.1) in
+    let o = quit_tops x.1 _ x.3 (blocks_tops blocks h.1) in
     record {
       parts = x.0 ∷ o.parts;
       each = (inr (inr (inr x.2)), o.each);
-      is = ap (λ (l : Text). l ++ flat blocks) x.4 ∙ append_assoc x.0 x.1 (flat blocks) ∙ ap (λ (l : Text). x.0 ++ l)
+      is = ap (λ l. l ++ flat blocks) x.4 ∙ append_assoc x.0 x.1 (flat blocks) ∙ ap (λ l. x.0 ++ l)
           o.is;
     }
 
@@ -210,10 +209,9 @@ program_is_loose text (x, y, (gaps, each, e), (z, w, (blocks, all, f), last, g),
     let o = blocks_tops blocks all in (
       flat (gaps ++ o.parts),
       w,
-      (gaps ++ o.parts, each-append (Matches top) gaps o.parts (sep_top gaps each) o.each, refl),
+      (gaps ++ o.parts, each-append _ gaps o.parts (sep_top gaps each) o.each, refl),
       ended last,
-      i ∙ join x y z w (flat gaps) (flat o.parts) e g (f ∙ o.is) ∙ ap (λ (l : Text). l ++ w)
-          (sym (flat_cat gaps o.parts)),
+      cc (join x y z w _ _ e g (f ∙ o.is), flat_cat gaps o.parts),
     )
   where
     join : (x y z w a b : Text) → x ≡ a → y ≡ z ++ w → z ≡ b → x ++ y ≡ (a ++ b) ++ w

@@ -1,5 +1,5 @@
 -- What sets of symbols have.
-use Rattle.std.proofs.Common.{ℕ, ◌≡◌, ◌<◌, ◌^◌, eqb, max, Bool, true, false, ◌||◌, refl, ap, ◌∙◌, arith}
+use Rattle.std.proofs.Common.{ℕ, ◌≡◌, ◌<◌, ◌^◌, max, Bool, true, false, ◌||◌, refl, arith}
 use Rattle.std.specs.Int.{bit_at}
 use Rattle.std.specs.Int.RustNames.{bit_or}
 use Rattle.std.proofs.lemmas.Bool.{eqb-true, eqb-false}
@@ -16,25 +16,26 @@ index_fits Proc = omega arith
 index_fits s = omega arith
 
 pub has_none : (s : Symbol) → has empty s ≡ false
-has_none s = ap (λ n. eqb n 1) (bit_at-zero (index s))
+has_none s = cc (bit_at-zero (index s))
 
 pub has_including : (s word : Symbol) (set : SymbolSet) → has (including s set) word ≡ (is word s || has set word)
-has_including s word set = by (is word s) refl
+has_including s word set = by _ refl
   where
     n : ℕ
     n = set.bits
 
-    both : bit_at (bit_or n (2 ^ index s)) (index word) ≡ max (bit_at n (index word)) (bit_at (2 ^ index s) (index word))
-    both = bit_at_or n (2 ^ index s) (index word)
+    both : bit_at (bit_or n (2 ^ index s)) (index word)
+        ≡ max (bit_at n (index word)) (bit_at (2 ^ index s) (index word))
+    both = bit_at_or n _ _
 
     by : (b : Bool) → is word s ≡ b → has (including s set) word ≡ (b || has set word)
     by true e =
         let one : bit_at (2 ^ index s) (index word) ≡ 1 =
-        ap (bit_at (2 ^ index s)) (eqb-true (index word) (index s) e) ∙ bit_at-pow_same (index s) in
+        cc (eqb-true _ _ e, bit_at-pow_same (index s)) in
         let set_bit : bit_at (bit_or n (2 ^ index s)) (index word) ≡ 1 =
-        omega (arith, both, one, bit_at-lt n (index word)) in
-        ap (λ k. eqb k 1) set_bit
+        omega (arith, both, bit_at-lt n (index word)) in
+        cc
     by false e =
-        let none = bit_at-pow_other (index s) (index word) (eqb-false (index word) (index s) e) in
-        let same : bit_at (bit_or n (2 ^ index s)) (index word) ≡ bit_at n (index word) = omega (arith, both, none) in
-        ap (λ k. eqb k 1) same
+        let none = bit_at-pow_other _ _ (eqb-false _ _ e) in
+        let same : bit_at (bit_or n (2 ^ index s)) (index word) ≡ bit_at n (index word) = omega (arith, both) in
+        cc

@@ -27,16 +27,16 @@ lacks_code c (Many a) = lacks_code c a
 lacks_code c (Fault code test) = not (code == c)
 
 pub other_code : (code c : ℕ) → not (code == c) ≡ true → code ≡ c → ⊥
-other_code code c h e = let f : not true ≡ true = subst (λ b. not b ≡ true) (eq-eqb code c e) h in cc
+other_code code c h e = let f = rw (eq-eqb code c e) at h in cc
 
 pub none : (c : ℕ) (a : Shape) (t : List Symbol) (s : Symbol) → lacks_code c a ≡ true → Names c a t s → ⊥
 none c Never t s l h = h
 none c Empty t s l h = h
 none c (One test) t s l h = h
-none c (Before a b) t s l (inl n) = none c a t s (and_parts (lacks_code c a) (lacks_code c b) l).0 n
-none c (Before a b) t s l (inr (x, y, m, n, e)) = none c b y s (and_parts (lacks_code c a) (lacks_code c b) l).1 n
-none c (Either a b) t s l (inl n) = none c a t s (and_parts (lacks_code c a) (lacks_code c b) l).0 n
-none c (Either a b) t s l (inr n) = none c b t s (and_parts (lacks_code c a) (lacks_code c b) l).1 n
+none c (Before a b) t s l (inl n) = none c a t s (and_parts _ _ l).0 n
+none c (Before a b) t s l (inr (x, y, m, n, e)) = none c b y s (and_parts _ _ l).1 n
+none c (Either a b) t s l (inl n) = none c a t s (and_parts _ _ l).0 n
+none c (Either a b) t s l (inr n) = none c b t s (and_parts _ _ l).1 n
 none c (Many a) t s l (x, y, m, n, e) = none c a y s l n
 none c (Fault code test) t s l (e, passed, same) = other_code code c l same
 
@@ -58,19 +58,19 @@ Ends (Fault code test) = Unit {0}
 ends : (a : Shape) (t : List Symbol) → Ends a → Matches a t → EndsInSemicolon t
 ends Never t h m = absurd m
 ends Empty t h m = absurd h
-ends (One test) t h (s, passed, e) = ([], subst (λ (x : Symbol). t ≡ x ∷ []) (h s passed) e)
+ends (One test) t h (s, passed, e) = ([], rw (h s passed) at e)
 ends (Before a b) t h (x, y, m, n, e) =
     let r = ends b y h n in
-    (x ++ r.0, e ∙ ap (λ (l : List Symbol). x ++ l) r.1 ∙ sym (append_assoc x r.0 (symbol.Semicolon ∷ [])))
+    (x ++ r.0, cc (append_assoc x r.0 (symbol.Semicolon ∷ [])))
 ends (Either a b) t h (inl m) = ends a t h.0 m
 ends (Either a b) t h (inr m) = ends b t h.1 m
 ends (Many a) t h m = absurd h
 ends (Fault code test) t h m = absurd m
 
 pub joined : (x y : List Symbol) → IsAtStart x → IsAtStart y → IsAtStart (x ++ y)
-joined x y h (inl e) = subst IsAtStart (sym (ap (λ (l : List Symbol). x ++ l) e ∙ append-nil x)) h
+joined x y h (inl e) = subst IsAtStart (sym (ap (λ l. x ++ l) e ∙ append-nil x)) h
 joined x y h (inr (front, e)) =
-    inr (x ++ front, ap (λ (l : List Symbol). x ++ l) e ∙ sym (append_assoc x front (symbol.Semicolon ∷ [])))
+    inr (x ++ front, ap (λ l. x ++ l) e ∙ sym (append_assoc x front (symbol.Semicolon ∷ [])))
 
 pub many : (a : Shape) → ((t : List Symbol) → Matches a t → IsAtStart t) → (t : List Symbol) → Matches (Many a) t
     → IsAtStart t
@@ -80,7 +80,7 @@ many a each t (parts, all, e) = subst IsAtStart (sym e) (of_parts parts all)
         → IsAtStart (flat_map (λ (part : List Symbol). part) parts)
     of_parts [] all = inl refl
     of_parts (part ∷ rest) all =
-        joined part (flat_map (λ (part : List Symbol). part) rest) (each part all.0) (of_parts rest all.1)
+        joined part _ (each part all.0) (of_parts rest all.1)
 
 pub semicolon : (s : Symbol) → is symbol.Semicolon s ≡ true → s ≡ symbol.Semicolon
 semicolon = symbol_is symbol.Semicolon
@@ -136,8 +136,7 @@ in_proc t s (inl n) = absurd n
 in_proc t s (inr (x, y, (p, passed, ex), inl (inl (inl n)), e)) = absurd n
 in_proc t s (inr (x, y, (p, passed, ex), inl (inl (inr (ey, left, same))), e)) = absurd (not_24 same)
 in_proc t s (inr (x, y, (p, passed, ex), inl (inr (ey, passes, same)), e)) = (
-  e ∙ ap (λ (l : List Symbol). l ++ y) ex ∙ ap (λ (l : List Symbol). p ∷ l) ey
-      ∙ ap (λ (z : Symbol). z ∷ []) (symbol_is symbol.Proc p passed),
+  cc (symbol_is symbol.Proc p passed),
   passes,
 )
 in_proc t s (inr (x, y, (p, passed, ex), inr (x', y', m, n, e'), e)) =
@@ -166,11 +165,11 @@ after_steps : (before t : List Symbol) (s : Symbol) → IsAtStart before
     → Names 1 (Many whole_step ▸ (key symbol.End ∣ unknown)) t s → (is_word s ≡ true) × AwaitsStatement (before ++ t)
 after_steps before t s start h = elim (from_parts 1 (Many whole_step) (key symbol.End ∣ unknown) t s h) [
   | inl n ↦
-      let r = in_step (before ++ n.0) n.1 s (joined before n.0 start (many whole_step whole_start n.0 n.2)) n.3 in
-      (r.0, subst AwaitsStatement (append_assoc before n.0 n.1 ∙ ap (λ (l : List Symbol). before ++ l) (sym n.4)) r.1)
+      let r = in_step _ n.1 s (joined before n.0 start (many whole_step whole_start n.0 n.2)) n.3 in
+      (r.0, subst AwaitsStatement (append_assoc before n.0 n.1 ∙ ap (λ l. before ++ l) (sym n.4)) r.1)
   | inr n ↦
-      let r = at_end (before ++ n.0) n.1 s (joined before n.0 start (many whole_step whole_start n.0 n.2)) n.3 in
-      (r.0, subst AwaitsStatement (append_assoc before n.0 n.1 ∙ ap (λ (l : List Symbol). before ++ l) (sym n.4)) r.1)
+      let r = at_end _ n.1 s (joined before n.0 start (many whole_step whole_start n.0 n.2)) n.3 in
+      (r.0, subst AwaitsStatement (append_assoc before n.0 n.1 ∙ ap (λ l. before ++ l) (sym n.4)) r.1)
 ]
 
 -- the law: where the grammar names 1, a statement or the procedure of PROC is awaited, and the symbol is a word

@@ -1,6 +1,6 @@
 -- What the lengths of items mean.
 use Rattle.std.proofs.Common.{◌≡◌, ℕ, zero, suc, ◌+◌, ◌<◌, Bool, true, false, List, [], ◌∷◌, ◌++◌, length, Option, Some}
-use Rattle.std.proofs.Common.{None, refl, sym, ap, ◌∙◌, inl, inr, ◌⊎◌, arith}
+use Rattle.std.proofs.Common.{None, refl, ap, inl, inr, ◌⊎◌, arith}
 use Rattle.std.specs.Prelude.{◌==◌, nat_lt, IsTrue, Contains, slice_index_or}
 use Rattle.std.specs.List.{prefix_len, list_all}
 use Rattle.std.specs.Option.{option_map}
@@ -12,7 +12,7 @@ use Rattle.fx_lexer.specs.TextPieces.{begins_with, begins_fraction, HasCommentEn
 -- the first byte, where it is known
 pub first_byte : (c : ℕ) (bytes : List ℕ) → starts_with_byte c bytes ≡ true → (rest : List ℕ) × (bytes ≡ c ∷ rest)
 first_byte c [] e = absurd (cc e)
-first_byte c (b ∷ bytes) e = (bytes, ap (λ x. x ∷ bytes) (eqb-true b c e))
+first_byte c (b ∷ bytes) e = (bytes, cc (eqb-true b c e))
 
 -- a front of the bytes that all pass, and a rest that doesn't begin so
 pub record Split (sort : ℕ → Bool) (bytes : List ℕ) : Type 0 where
@@ -32,8 +32,8 @@ split sort (b ∷ bytes) =
           record {
             front = b ∷ r.front;
             rest = r.rest;
-            joined = ap (λ l. b ∷ l) r.joined;
-            long = rw passes (omega (arith, r.long));
+            joined = cc;
+            long = rw passes (omega arith);
             all = rw passes r.all;
             ended = r.ended;
           }
@@ -80,10 +80,10 @@ closing_further b bytes (Some n) e h =
     record {
       inside = b ∷ h.inside;
       rest = h.rest;
-      joined = ap (λ l. b ∷ l) h.joined;
-      long = omega (arith, h.long);
+      joined = cc;
+      long = omega arith;
       first = closes_cons b (h.inside ++ 42 ∷ [])
-          (sym (ends_same b h.inside (47 ∷ h.rest)) ∙ ap (λ l. ends_comment (b ∷ l)) (sym h.joined) ∙ e) h.first;
+          (cc (ends_same b h.inside (47 ∷ h.rest))) h.first;
     }
 
 pub closing_is : (bytes : List ℕ) → ClosingIs bytes (closing_len bytes)
@@ -96,7 +96,7 @@ closing_is (b ∷ bytes) =
           rw passes (record {
             inside = [];
             rest = tail.0;
-            joined = rw (← tail.1) (ap (λ x. x ∷ bytes) (eqb-true b 42 is.0));
+            joined = rw (← tail.1) (cc (eqb-true b 42 is.0));
             long = refl;
             first = λ h. short h.0 h.1 h.2;
           })
@@ -124,7 +124,7 @@ contains_cons c b bytes e later h = at_index h.0 h.1 h.2
   where
     at_index : (k : ℕ) → k < length (b ∷ bytes) → slice_index_or (b ∷ bytes) k c ≡ c → ⊥
     at_index zero within is = cc (e, eq-eqb b c is)
-    at_index (suc k) within is = later (k, omega (arith, within), is)
+    at_index (suc k) within is = later (k, omega arith, is)
 
 remark_further : (b : ℕ) (bytes : List ℕ) (r : Option ℕ) → (b == 59) ≡ false → RemarkIs bytes r
     → RemarkIs (b ∷ bytes) (option_map suc r)
@@ -133,13 +133,13 @@ remark_further b bytes (Some n) e h =
     record {
       inside = b ∷ h.inside;
       rest = h.rest;
-      joined = ap (λ l. b ∷ l) h.joined;
-      long = omega (arith, h.long);
+      joined = cc;
+      long = omega arith;
       first = contains_cons 59 b h.inside e h.first;
     }
 
 contains_nil : (c : ℕ) → ¬ Contains [] c
-contains_nil c h = omega (arith, h.1)
+contains_nil c h = omega arith
 
 pub remark_is : (bytes : List ℕ) → RemarkIs bytes (remark_len bytes)
 remark_is [] = contains_nil 59
@@ -149,7 +149,7 @@ remark_is (b ∷ bytes) =
           rw is (record {
             inside = [];
             rest = bytes;
-            joined = ap (λ x. x ∷ bytes) (eqb-true b 59 is);
+            joined = cc (eqb-true b 59 is);
             long = refl;
             first = contains_nil 59;
           })
@@ -179,7 +179,7 @@ pair_further q bytes None later = λ h. at_front h.0 h.1 h.2 h.3
         → ⊥
     at_front [] rest j e =
         let k : rest ≡ q ∷ bytes = cc j in
-        let f : starts_with_byte q rest ≡ (q == q) = ap (starts_with_byte q) k in
+        let f : starts_with_byte q rest ≡ (q == q) = cc in
         cc (itself q, f, e)
     at_front (x ∷ value) rest j e =
         elim (cases_Bool (x == q)) [
@@ -190,8 +190,8 @@ pair_further q bytes (Some n) h =
     record {
       value = q ∷ h.value;
       rest = h.rest;
-      joined = rw (itself q) (ap (λ l. q ∷ q ∷ l) h.joined);
-      long = rw (itself q) (omega (arith, h.long));
+      joined = rw (itself q) (cc);
+      long = rw (itself q) (omega arith);
       ended = h.ended;
     }
 
@@ -210,8 +210,8 @@ single_further q b bytes (Some n) differs h =
     record {
       value = b ∷ h.value;
       rest = h.rest;
-      joined = rw differs (ap (λ l. b ∷ l) h.joined);
-      long = rw differs (omega (arith, h.long));
+      joined = rw differs (cc);
+      long = rw differs (omega arith);
       ended = h.ended;
     }
 
@@ -239,7 +239,7 @@ quoted_from q false (b ∷ bytes) =
                 rw (is, alone) (record {
                   value = [];
                   rest = bytes;
-                  joined = ap (λ x. x ∷ bytes) (eqb-true b q is);
+                  joined = cc (eqb-true b q is);
                   long = refl;
                   ended = alone;
                 })
@@ -265,7 +265,7 @@ none_passes : (sort : ℕ → Bool) (bytes : List ℕ) → nat_lt 0 (prefix_len 
 none_passes sort [] e = refl
 none_passes sort (b ∷ bytes) e =
     elim (cases_Bool (sort b)) [
-      | inl passes ↦ absurd (let k = rw passes at e in let l = ltb-false 0 (1 + prefix_len sort bytes) k in omega arith)
+      | inl passes ↦ absurd (let k = rw passes at e in let l = ltb-false 0 _ k in omega arith)
       | inr fails ↦ fails
     ]
 
@@ -277,13 +277,13 @@ fraction_is (b ∷ bytes) =
           elim (cases_Bool (nat_lt 0 (prefix_len is_digit bytes))) [
             | inl digit ↦
                 let r = split is_digit bytes in
-                let positive = ltb-true 0 (prefix_len is_digit bytes) digit in
+                let positive = ltb-true 0 _ digit in
                 inl (record {
                   digits = r.front;
                   rest = r.rest;
-                  joined = rw (← r.joined) (ap (λ x. x ∷ bytes) (eqb-true b 46 point));
-                  long = rw (point, digit) (omega (arith, r.long));
-                  some = omega (arith, r.long);
+                  joined = rw (← r.joined) (cc (eqb-true b 46 point));
+                  long = rw (point, digit) (omega arith);
+                  some = omega arith;
                   all = r.all;
                   ended = r.ended;
                 })

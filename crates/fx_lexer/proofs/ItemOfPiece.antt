@@ -59,9 +59,9 @@ module _ (start : Bool) (b : ℕ) (bytes : List ℕ) where
       let part_at : ℕ → ℕ = λ n. fraction_len (drop n (b ∷ bytes)) in
       let here : not_gap (prefix_len is_digit (b ∷ bytes)) (part_at (prefix_len is_digit (b ∷ bytes)))
       ≡ not_gap digits (part_at digits) =
-      ap (λ n. not_gap n (part_at n)) count
+      cc
       in
-      rw (e, f, g) (here ∙ ap (λ n. not_gap digits n) part)
+      rw (e, f, g) (cc)
 
   word_row : (digits fraction : ℕ) → begins_word b ≡ true
       → not_gap digits fraction ≡ limited kind.Word (prefix_len is_word_byte (b ∷ bytes)) 32 5
@@ -72,7 +72,7 @@ module _ (start : Bool) (b : ℕ) (bytes : List ℕ) where
       → not_gap digits fraction ≡ item_of_number digits fraction
   unfolding not_gap
   number_row digits fraction e some =
-      let f : begins_number digits fraction ≡ true = lt-ltb 0 (digits + fraction) some in
+      let f = lt-ltb 0 _ some in
       rw (e, f) refl
 
   quoted_row : begins_word b ≡ false → is_quote b ≡ true
@@ -105,7 +105,7 @@ no_fraction [] e = refl
 no_fraction (b ∷ bytes) e =
     elim (cases_Bool (b == 46)) [
       | inl point ↦
-          (let f = rw point at e in let none : prefix_len is_digit bytes ≡ 0 = prefix_all is_digit [] bytes refl f in
+          (let f = rw point at e in let none = prefix_all is_digit [] bytes refl f in
           rw (point, none) refl)
       | inr other ↦ rw other refl
     ]
@@ -113,12 +113,12 @@ no_fraction (b ∷ bytes) e =
 a_fraction : (digits rest : List ℕ) → 0 < length digits → list_all is_digit digits ≡ true
     → begins_with is_digit rest ≡ false → fraction_len (46 ∷ (digits ++ rest)) ≡ 1 + length digits
 a_fraction digits rest some all ended =
-    rw (prefix_all is_digit digits rest all ended, lt-ltb 0 (length digits) some) refl
+    rw (prefix_all is_digit digits rest all ended, lt-ltb 0 _ some) refl
 
 digit_no_word : (b : ℕ) → is_digit b ≡ true → begins_word b ≡ false
 digit_no_word b is =
     let most = leb-true b 57 (and_parts (nat_le 48 b) (nat_le b 57) is).1 in
-    rw (lt-leb 65 b (omega (arith, most)), lt-leb 97 b (omega (arith, most)), differs is_digit b 95 is refl) refl
+    rw (lt-leb 65 b (omega arith), lt-leb 97 b (omega arith), differs is_digit b 95 is refl) refl
 
 -- a digit or a point
 pub number_byte : ℕ → Bool
@@ -151,7 +151,7 @@ module _ (start : Bool) (b : ℕ) (bytes : List ℕ) where
   word_item [] rest joined begins all ended = absurd (cc begins)
   word_item (x ∷ name) rest joined begins all ended =
       let same : b ≡ x = cc joined in
-      let is : begins_word b ≡ true = ap begins_word same ∙ begins in
+      let is = ap begins_word same ∙ begins in
       let count = ap (prefix_len is_word_byte) joined ∙ prefix_all is_word_byte (x ∷ name) rest all ended in
       let white_not = no_white begins_word b is refl refl refl refl in
       let comment_not = no_comment start b bytes (differs begins_word b 47 is refl) in
@@ -174,7 +174,7 @@ length_closing (x ∷ inside) rest first =
       | inr goes_on ↦
           let inner : ¬ HasCommentEnd (inside ++ 42 ∷ []) = λ h. first (x ∷ h.0, h.1, ap (λ l. x ∷ l) h.2) in
           let more : suc (length inside + 2) ≡ suc (length inside) + 2 = omega arith in
-          rw (goes_on, length_closing inside rest inner) (ap (λ n. Some n) more)
+          rw (goes_on, length_closing inside rest inner) (cc)
     ]
 
 length_remark : (inside rest : List ℕ) → ¬ Contains inside 59
@@ -184,9 +184,9 @@ length_remark (x ∷ inside) rest first =
     elim (cases_Bool (x == 59)) [
       | inl is ↦ absurd (first (0, omega arith, eqb-true x 59 is))
       | inr other ↦
-          let inner : ¬ Contains inside 59 = λ h. first (suc h.0, omega (arith, h.1), h.2) in
+          let inner : ¬ Contains inside 59 = λ h. first (suc h.0, omega arith, h.2) in
           let more : suc (length inside + 1) ≡ suc (length inside) + 1 = omega arith in
-          rw (other, length_remark inside rest inner) (ap (λ n. Some n) more)
+          rw (other, length_remark inside rest inner) (cc)
     ]
 
 length_quoted : (q : ℕ) (value rest : List ℕ) → starts_with_byte q rest ≡ false
@@ -197,10 +197,10 @@ length_quoted q (x ∷ value) rest ended =
       | inl is ↦
           let more : suc (suc (length (doubled q value) + 1)) ≡ suc (suc (length (doubled q value))) + 1 =
           omega arith in
-          rw (is, eq-eqb q q refl, length_quoted q value rest ended) (ap (λ n. Some n) more)
+          rw (is, eq-eqb q q refl, length_quoted q value rest ended) (cc)
       | inr other ↦
           let more : suc (length (doubled q value) + 1) ≡ suc (length (doubled q value)) + 1 = omega arith in
-          rw (other, other, length_quoted q value rest ended) (ap (λ n. Some n) more)
+          rw (other, other, length_quoted q value rest ended) (cc)
     ]
 
 -- a comment, a remark or a quoted text with no end
@@ -232,7 +232,7 @@ none_of [] b p found none = absurd (cc found)
 none_of (c ∷ list) b p found none =
     let is = and_parts (not (p c)) (list_all (λ c. not (p c)) list) none in
     elim (or_cases (c == b) (list_any (λ c. c == b) list) found) [
-      | inl here ↦ (let e = ap p (eqb-true c b here) in let f = not-true (p c) is.0 in cc)
+      | inl here ↦ (let e = ap p (eqb-true c b here) in let f = not-true _ is.0 in cc)
       | inr later ↦ none_of list b p later is.1
     ]
 
@@ -313,7 +313,7 @@ short_is : (k : Kind) (n limit fault : ℕ) → n ≤ limit → limited k n limi
 short_is k n limit fault h = rw (le-leb n limit h) refl
 
 long_is : (k : Kind) (n limit fault : ℕ) → ¬ (n ≤ limit) → limited k n limit fault ≡ Err fault
-long_is k n limit fault h = rw (lt-leb n limit (omega (arith, h))) refl
+long_is k n limit fault h = rw (lt-leb n limit (omega arith)) refl
 
 not_zero : (n : ℕ) → 0 < n → (n == 0) ≡ false
 not_zero n some = elim (cases_Bool (n == 0)) [ inl e ↦ absurd (let z = eqb-true n 0 e in omega arith) | inr e ↦ e ]
@@ -322,10 +322,10 @@ module _ (start : Bool) (b : ℕ) (bytes : List ℕ) where
   pub digit_first : (digits rest : List ℕ) → 0 < length digits → b ∷ bytes ≡ digits ++ rest
       → list_all is_digit digits ≡ true → number_byte b ≡ true
   unfolding number_byte
-  digit_first [] rest some joined all = absurd (omega (arith, some))
+  digit_first [] rest some joined all = absurd (omega arith)
   digit_first (x ∷ digits) rest some joined all =
       let same : b ≡ x = cc joined in
-      let is : is_digit b ≡ true = ap is_digit same ∙ (and_parts (is_digit x) (list_all is_digit digits) all).0 in
+      let is = ap is_digit same ∙ (and_parts (is_digit x) (list_all is_digit digits) all).0 in
       rw is refl
 
   pub point_or_digit : (digits fraction : List ℕ) → b ∷ bytes ≡ digits ++ 46 ∷ fraction
@@ -339,14 +339,14 @@ module _ (start : Bool) (b : ℕ) (bytes : List ℕ) where
       → first_item start (b ∷ bytes) ≡ limited kind.Whole (length digits) 38 4
   whole_item digits rest some joined all ended pointless =
       number_item start b bytes digits rest 0 (digit_first digits rest some joined all) joined all ended
-      (no_fraction rest pointless) (omega (arith, some))
+      (no_fraction rest pointless) (omega arith)
 
   decimal_item : (digits fraction rest : List ℕ) → b ∷ bytes ≡ (digits ++ 46 ∷ fraction) ++ rest
       → list_all is_digit digits ≡ true → 0 < length fraction → list_all is_digit fraction ≡ true
       → begins_with is_digit rest ≡ false
       → first_item start (b ∷ bytes) ≡ limited kind.Decimal (length (digits ++ 46 ∷ fraction)) 38 4
   decimal_item digits fraction rest joined all some fraction_all ended =
-      let joined' : b ∷ bytes ≡ digits ++ (46 ∷ (fraction ++ rest)) =
+      let joined' =
       joined ∙ append_assoc digits (46 ∷ fraction) rest in
       let is = point_or_digit digits (fraction ++ rest) joined' all in
       let part = a_fraction fraction rest some fraction_all ended in
@@ -354,7 +354,7 @@ module _ (start : Bool) (b : ℕ) (bytes : List ℕ) where
       omega (arith, length-append digits (46 ∷ fraction)) in
       number_item start b bytes digits (46 ∷ (fraction ++ rest)) (1 + length fraction) is joined' all refl part
       (omega arith)
-      ∙ rw (not_zero (1 + length fraction) (omega arith)) (ap (λ n. limited kind.Decimal n 38 4) size)
+      ∙ rw (not_zero (1 + length fraction) (omega arith)) (cc)
 
 -- the item of a piece at the front of a text
 abbrev pub item_of : Piece → Result Item ℕ
@@ -363,14 +363,14 @@ item_of p = Ok (record { kind = kind_of p; length = length (spelling p) })
 at_front : (start : Bool) (b : ℕ) (bytes text : List ℕ) (r : Result Item ℕ) → b ∷ bytes ≡ text
     → first_item start text ≡ r
     → first_item start (b ∷ bytes) ≡ r
-at_front start b bytes text r joined e = ap (first_item start) joined ∙ e
+at_front start b bytes text r joined e = cc
 
 pub piece_item : (start : Bool) (p : Piece) (rest : List ℕ) (b : ℕ) (bytes : List ℕ) → b ∷ bytes ≡ spelling p ++ rest
     → HasForm start p rest → HasAllowedLength p → first_item start (b ∷ bytes) ≡ item_of p
 piece_item start (white w) rest b bytes joined form short =
-    at_front start b bytes (w ∷ rest) _ joined (white_item start w rest form)
+    at_front start b bytes _ _ joined (white_item start w rest form)
 piece_item start (comment inside) rest b bytes joined form short =
-    let inner : (inside ++ 42 ∷ 47 ∷ []) ++ rest ≡ inside ++ 42 ∷ 47 ∷ rest = append_assoc inside (42 ∷ 47 ∷ []) rest in
+    let inner = append_assoc inside (42 ∷ 47 ∷ []) rest in
     let found = ap closing_len inner ∙ length_closing inside rest form in
     let size : 2 + (length inside + 2) ≡ suc (suc (length (inside ++ 42 ∷ 47 ∷ []))) =
     omega (arith, length-append inside (42 ∷ 47 ∷ [])) in
@@ -378,7 +378,7 @@ piece_item start (comment inside) rest b bytes joined form short =
     (comment_item start ((inside ++ 42 ∷ 47 ∷ []) ++ rest) ∙ ap (λ r. comment_if_closed (option_map (λ n. 2 + n) r))
     found ∙ ap gap size)
 piece_item start (remark inside) rest b bytes joined form short =
-    let inner : (inside ++ 59 ∷ []) ++ rest ≡ inside ++ 59 ∷ rest = append_assoc inside (59 ∷ []) rest in
+    let inner = append_assoc inside (59 ∷ []) rest in
     let found = ap remark_len inner ∙ length_remark inside rest form.1 in
     let size : suc (length inside + 1) ≡ suc (length (inside ++ 59 ∷ [])) =
     omega (arith, length-append inside (59 ∷ [])) in
@@ -387,15 +387,15 @@ piece_item start (remark inside) rest b bytes joined form short =
     (λ r. comment_if_closed (option_map suc r)) found ∙ ap gap size)
 piece_item start (word name) rest b bytes joined form short =
     word_item start b bytes name rest joined form.0 form.1 form.2
-    ∙ short_is kind.Word (length name) 32 5 short
+    ∙ short_is kind.Word _ 32 5 short
 piece_item start (whole digits) rest b bytes joined form short =
     whole_item start b bytes digits rest form.0 joined form.1 form.2 form.3
-    ∙ short_is kind.Whole (length digits) 38 4 short
+    ∙ short_is kind.Whole _ 38 4 short
 piece_item start (decimal digits fraction) rest b bytes joined form short =
     decimal_item start b bytes digits fraction rest joined form.0 form.1 form.2 form.3
-    ∙ short_is kind.Decimal (length (digits ++ 46 ∷ fraction)) 38 4 short
+    ∙ short_is kind.Decimal _ 38 4 short
 piece_item start (quoted q value) rest b bytes joined form short =
-    let inner : (doubled q value ++ q ∷ []) ++ rest ≡ doubled q value ++ q ∷ rest =
+    let inner =
     append_assoc (doubled q value) (q ∷ []) rest in
     let found = ap (quoted_len q false) inner ∙ length_quoted q value rest form.1 in
     let size : suc (length (doubled q value) + 1) ≡ suc (length (doubled q value ++ q ∷ [])) =
@@ -404,7 +404,7 @@ piece_item start (quoted q value) rest b bytes joined form short =
     (quoted_item start q ((doubled q value ++ q ∷ []) ++ rest) form.0 ∙ ap (λ r. quoted_if_closed (option_map suc r))
     found ∙ ap (token kind.Quoted) size)
 piece_item start (sign s) rest b bytes joined form short =
-    at_front start b bytes (s ∷ rest) _ joined (sign_item start s rest form.0 form.1 form.2)
+    at_front start b bytes _ _ joined (sign_item start s rest form.0 form.1 form.2)
 
 -- the fault of a flaw at the front of a text
 pub flaw_item : (start : Bool) (flaw : Flaw) (b : ℕ) (bytes : List ℕ) → b ∷ bytes ≡ flaw_text flaw → IsFlaw start flaw

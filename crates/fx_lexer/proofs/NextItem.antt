@@ -1,6 +1,6 @@
 -- One item further.
 use Rattle.std.proofs.Common.{◌∙◌, ◌≡◌, ℕ, zero, suc, ◌+◌, ◌-◌, ◌<◌, ◌≤◌, Bool, List, ◌++◌, length, get_or, take, drop}
-use Rattle.std.proofs.Common.{Result, Ok, Err, refl, sym, ap, subst, append_assoc, append-nil, arith}
+use Rattle.std.proofs.Common.{Result, Ok, Err, refl, ap, subst, append_assoc, append-nil, arith}
 use Rattle.std.proofs.Math.Seq.{drop-cons}
 use Rattle.std.proofs.lemmas.List.{drop_all}
 use Rattle.std.proofs.Math.Numerals.{add-one}
@@ -43,10 +43,10 @@ module _ (text : List ℕ) (start : Bool) where
 -- more tokens in front
 pub in_front_twice : (a b : List Token) (r : Result (List Token) LexFault)
     → in_front a (in_front b r) ≡ in_front (a ++ b) r
-in_front_twice a b (Ok x) = ap (λ l. Ok l) (sym (append_assoc a b x))
+in_front_twice a b (Ok x) = cc (append_assoc a b x)
 in_front_twice a b (Err e) = refl
 
 -- nothing is left to read
 pub all_read : (text : List ℕ) (start : Bool) (at : ℕ) (tokens : List Token) → length text ≤ at
     → lexed text ≡ in_front tokens (lexed_from text 0 start at (drop at text)) → lexed text ≡ Ok tokens
-all_read text start at tokens end e = e ∙ rw (drop_all at text end) (ap (λ l. Ok l) (append-nil tokens))
+all_read text start at tokens end e = e ∙ rw (drop_all at text end) (cc (append-nil tokens))

@@ -1,5 +1,5 @@
 -- What the item that a text begins with is: a piece, or a flaw.
-use Rattle.std.proofs.Common.{◌≡◌, ℕ, suc, ◌+◌, ◌<◌, ◌≤◌, Bool, true, false, ◌||◌, List, [], ◌∷◌, ◌++◌, length, drop}
+use Rattle.std.proofs.Common.{◌≡◌, ℕ, suc, ◌+◌, ◌<◌, ◌≤◌, Bool, true, false, List, [], ◌∷◌, ◌++◌, length, drop}
 use Rattle.std.proofs.Common.{Option, Some, None, Result, Ok, Err, refl, sym, ap, subst, ◌∙◌, inl, inr, append_assoc}
 use Rattle.std.proofs.Common.{length-append, arith}
 use Rattle.std.specs.Prelude.{◌==◌, nat_le, if◌then◌else◌, IsTrue}
@@ -74,11 +74,11 @@ module _ (start : Bool) (b : ℕ) (bytes : List ℕ) where
       record {
         piece = comment h.inside;
         rest = h.rest;
-        joined = ap (λ l. 47 ∷ 42 ∷ l) (h.joined ∙ sym (append_assoc h.inside (42 ∷ 47 ∷ []) h.rest));
+        joined = cc (append_assoc h.inside (42 ∷ 47 ∷ []) h.rest);
         form = h.first;
         short = tt;
         kind = refl;
-        long = rw (length-append h.inside (42 ∷ 47 ∷ [])) (omega (arith, h.long));
+        long = rw (length-append h.inside (42 ∷ 47 ∷ [])) (omega arith);
         behind = refl;
       }
 
@@ -106,11 +106,11 @@ module _ (start : Bool) (b : ℕ) (bytes : List ℕ) where
           record {
             piece = remark h.inside;
             rest = h.rest;
-            joined = ap (λ l. 42 ∷ l) (h.joined ∙ sym (append_assoc h.inside (59 ∷ []) h.rest));
+            joined = cc (append_assoc h.inside (59 ∷ []) h.rest);
             form = (starts, h.first);
             short = tt;
             kind = refl;
-            long = rw (length-append h.inside (59 ∷ [])) (omega (arith, h.long));
+            long = rw (length-append h.inside (59 ∷ [])) (omega arith);
             behind = refl;
           }
 
@@ -124,11 +124,11 @@ module _ (start : Bool) (b : ℕ) (bytes : List ℕ) where
           record {
             piece = quoted b r.value;
             rest = r.rest;
-            joined = ap (λ l. b ∷ l) (r.joined ∙ sym (append_assoc (doubled b r.value) (b ∷ []) r.rest));
+            joined = cc (append_assoc (doubled b r.value) (b ∷ []) r.rest);
             form = (h, r.ended);
             short = tt;
             kind = refl;
-            long = rw (length-append (doubled b r.value) (b ∷ [])) (omega (arith, r.long));
+            long = rw (length-append (doubled b r.value) (b ∷ [])) (omega arith);
             behind = differs is_quote b 59 h refl;
           }
 
@@ -157,7 +157,7 @@ module _ (start : Bool) (b : ℕ) (bytes : List ℕ) where
   front_first : (sort : ℕ → Bool) → sort b ≡ true → (front rest : List ℕ) → b ∷ bytes ≡ front ++ rest
       → begins_with sort rest ≡ false → (tail : List ℕ) × (front ≡ b ∷ tail)
   front_first sort is [] rest joined ended =
-      absurd (let k : sort b ≡ begins_with sort rest = ap (begins_with sort) joined in cc)
+      absurd (let k : sort b ≡ begins_with sort rest = cc in cc)
   front_first sort is (x ∷ front) rest joined ended = (front, cc)
 
   word_found : IsTrue (begins_word b)
@@ -166,17 +166,17 @@ module _ (start : Bool) (b : ℕ) (bytes : List ℕ) where
       let r = split is_word_byte (b ∷ bytes) in
       let first = front_first is_word_byte (rw h refl) r.front r.rest r.joined r.ended in
       let begins = ap (begins_with begins_word) first.1 ∙ h in
-      limited_is (word r.front) r.rest kind.Word (prefix_len is_word_byte (b ∷ bytes)) 32 5 r.joined
+      limited_is (word r.front) r.rest kind.Word _ 32 5 r.joined
       (begins, r.all, r.ended) refl (sym r.long)
-      (differs begins_word b 59 h refl) refl (λ few. omega (arith, r.long, few))
-      (λ many short. omega (arith, r.long, many, short))
+      (differs begins_word b 59 h refl) refl (λ few. omega arith)
+      (λ many short. omega arith)
 
   all_first : (sort : ℕ → Bool) (front rest : List ℕ) → b ∷ bytes ≡ front ++ rest → 0 < length front
       → list_all sort front ≡ true → sort b ≡ true
-  all_first sort [] rest joined some all = absurd (omega (arith, some))
+  all_first sort [] rest joined some all = absurd (omega arith)
   all_first sort (x ∷ front) rest joined some all =
       let e : b ≡ x = cc in
-      ap sort e ∙ (and_parts (sort x) (list_all sort front) all).0
+      cc ((and_parts (sort x) (list_all sort front) all).0)
 
   decimal_first : (front digits rest : List ℕ) → b ∷ bytes ≡ front ++ (46 ∷ digits ++ rest)
       → list_all is_digit front ≡ true → (b == 59) ≡ false
@@ -191,17 +191,17 @@ module _ (start : Bool) (b : ℕ) (bytes : List ℕ) where
     whole_found pointless some =
         limited_is (whole front) rest kind.Whole (length front) 38 4 joined (some, all, ended, pointless) refl refl
         (differs is_digit b 59 (all_first is_digit front rest joined some all) refl) refl (λ few. few)
-        (λ many short. omega (arith, many, short))
+        (λ many short. omega arith)
 
     decimal_found : (f : Fraction rest) (n : ℕ) → n ≡ length front + fraction_len rest
         → ItemIs start b bytes (limited kind.Decimal n 38 4)
     decimal_found f n long =
-        let is : b ∷ bytes ≡ front ++ (46 ∷ f.digits ++ f.rest) = joined ∙ ap (λ l. front ++ l) f.joined in
-        let size : n ≡ length (front ++ 46 ∷ f.digits) = omega (arith, length-append front (46 ∷ f.digits), f.long) in
+        let is : b ∷ bytes ≡ front ++ (46 ∷ f.digits ++ f.rest) = cc in
+        let size : n ≡ length (front ++ 46 ∷ f.digits) = omega (arith, length-append front (46 ∷ f.digits)) in
         limited_is (decimal front f.digits) f.rest kind.Decimal n 38 4
-        (is ∙ sym (append_assoc front (46 ∷ f.digits) f.rest))
+        (cc (append_assoc front (46 ∷ f.digits) f.rest))
         (all, f.some, f.all, f.ended) refl size (decimal_first front f.digits f.rest is all) refl
-        (λ few. omega (arith, few, size)) (λ many short. omega (arith, many, short, size))
+        (λ few. omega arith) (λ many short. omega arith)
 
     number_at : (n : ℕ) → n ≡ fraction_len rest → 0 < length front + n
         → ItemIs start b bytes (item_of_number (length front) n)
@@ -211,7 +211,7 @@ module _ (start : Bool) (b : ℕ) (bytes : List ℕ) where
         (λ e.
         let none = eqb-true n 0 e in
         elim (fraction_is rest) [
-          | inl f ↦ absurd (omega (arith, f.long))
+          | inl f ↦ absurd (omega arith)
           | inr f ↦ whole_found f.1 (omega arith)
         ])
         (λ e.
@@ -232,14 +232,12 @@ module _ (start : Bool) (b : ℕ) (bytes : List ℕ) where
   number_found h =
       let r = split is_digit (b ∷ bytes) in
       let after : drop whole_len (b ∷ bytes) ≡ r.rest =
-      ap (λ l. drop whole_len l) r.joined
-      ∙ ap (λ n. drop n (r.front ++ r.rest)) (sym r.long)
-      ∙ drop-append_seam r.front r.rest
+      cc (drop-append_seam r.front r.rest)
       in
       let fraction = ap fraction_len after in
-      let some = ltb-true 0 (whole_len + part_len) h in
+      let some = ltb-true 0 _ h in
       let P : ℕ → Type 0 = λ n. ItemIs start b bytes (item_of_number n part_len) in
-      subst P r.long (number_at r.front r.rest r.joined r.all r.ended _ fraction (omega (arith, some, r.long)))
+      subst P r.long (number_at r.front r.rest r.joined r.all r.ended _ fraction (omega arith))
 
   sign_found : begins_comment (b ∷ bytes) ≡ false → begins_remark start (b ∷ bytes) ≡ false → IsTrue (is_sign b)
       → ItemIs start b bytes (token kind.Sign 1)
@@ -259,7 +257,7 @@ module _ (start : Bool) (b : ℕ) (bytes : List ℕ) where
   no_digit h =
       elim (cases_Bool (is_digit b)) [
         | inl is ↦
-            let few = ltb-false 0 (whole_len + part_len) h in
+            let few = ltb-false 0 _ h in
             let long : whole_len ≡ 1 + prefix_len is_digit bytes = rw is refl in
             absurd (omega arith)
         | inr e ↦ e
@@ -268,7 +266,7 @@ module _ (start : Bool) (b : ℕ) (bytes : List ℕ) where
   no_fraction : is_digit b ≡ false → begins_number whole_len part_len ≡ false → begins_fraction (b ∷ bytes) ≡ false
   no_fraction other h =
       let few = ltb-false 0 (0 + fraction_len (b ∷ bytes)) (rw other at h) in
-      elim (fraction_is (b ∷ bytes)) [ inl f ↦ absurd (omega (arith, f.long)) | inr f ↦ f.1 ]
+      elim (fraction_is (b ∷ bytes)) [ inl f ↦ absurd (omega arith) | inr f ↦ f.1 ]
 
   stray_found : is_white b ≡ false → begins_word b ≡ false → begins_number whole_len part_len ≡ false
       → is_quote b ≡ false
@@ -276,15 +274,15 @@ module _ (start : Bool) (b : ℕ) (bytes : List ℕ) where
   stray_found no_white no_word no_number no_quote no_sign =
       let digit = no_digit no_number in
       let letter =
-      or_from (is_white b || begins_word b) (is_digit b) (or_from (is_white b) (begins_word b) no_white no_word)
+      or_from _ _ (or_from _ _ no_white no_word)
       digit in
       let point =
-      or_from (is_white b || begins_word b || is_digit b) (begins_fraction (b ∷ bytes)) letter
+      or_from _ _ letter
       (no_fraction digit no_number) in
       record {
         flaw = stray b bytes;
         joined = refl;
-        form = or_from _ (is_sign b) (or_from _ (is_quote b) point no_quote) no_sign;
+        form = or_from _ _ (or_from _ _ point no_quote) no_sign;
         kind = refl;
       }
 

@@ -1,6 +1,6 @@
 -- What a text is: its pieces, or pieces up to a flaw.
 use Rattle.std.proofs.Common.{◌≡◌, ℕ, zero, suc, ◌+◌, ◌-◌, ◌<◌, ◌≤◌, Bool, true, List, [], ◌∷◌, ◌++◌, length, take}
-use Rattle.std.proofs.Common.{Result, Ok, Err, refl, sym, ap, subst, ◌∙◌, append_assoc, length-append, append-nil}
+use Rattle.std.proofs.Common.{Result, Ok, Err, refl, ap, subst, ◌∙◌, append_assoc, length-append, append-nil}
 use Rattle.std.proofs.Common.{add-zero, arith}
 use Rattle.std.proofs.Math.Seq.{take-append_seam}
 use Rattle.fx_lexer.specs.declared.item.Item.{Item}
@@ -37,17 +37,17 @@ pub passed : (text : List ℕ) (start : Bool) (front rest : List ℕ) (at : ℕ)
 passed text start [] rest at = rw add-zero refl
 passed text start (x ∷ front) rest at =
     let e : at + 1 + length front ≡ at + suc (length front) = omega arith in
-    passed text start front rest (at + 1) ∙ ap (λ k. lexed_from text 0 start k rest) e
+    cc (passed text start front rest (at + 1))
 
 pub item_passed : (text : List ℕ) (start : Bool) (front rest : List ℕ) (b : ℕ) (bytes : List ℕ) (n at : ℕ)
     → b ∷ bytes ≡ front ++ rest → 0 < length front → n ≡ length front
     → lexed_from text (n - 1) start (at + 1) bytes ≡ lexed_from text 0 start (at + n) rest
-item_passed text start [] rest b bytes n at joined some long = absurd (omega (arith, some))
+item_passed text start [] rest b bytes n at joined some long = absurd (omega arith)
 item_passed text start (x ∷ front) rest b bytes n at joined some long =
-    let e : n - 1 ≡ length front = omega (arith, long) in
+    let e : n - 1 ≡ length front = omega arith in
     let f : bytes ≡ front ++ rest = cc in
-    let g : at + 1 + length front ≡ at + n = omega (arith, long) in
-    rw (e, f) (passed text start front rest (at + 1) ∙ ap (λ k. lexed_from text 0 start k rest) g)
+    let g : at + 1 + length front ≡ at + n = omega arith in
+    rw (e, f) (cc (passed text start front rest (at + 1)))
 
 -- after the bytes `before`, the rest is pieces with these tokens
 pub record Taken (before rest : List ℕ) (start : Bool) (tokens : List Token) : Type 0 where
@@ -76,22 +76,22 @@ module _ (before : List ℕ) (start : Bool) (b : ℕ) (bytes : List ℕ) where
   one_more it h (Ok tokens) t =
       record {
         pieces = h.piece ∷ t.pieces;
-        joined = h.joined ∙ ap (λ l. spelling h.piece ++ l) t.joined;
-        formed = (subst (λ l. HasForm start h.piece l) t.joined h.form, h.short, t.formed);
+        joined = cc;
+        formed = (rw t.joined at h.form, h.short, t.formed);
         tokens_are = rw (h.kind, h.long, t.tokens_are) refl;
       }
   one_more it h (Err fault) t =
       record {
         pieces = h.piece ∷ t.pieces;
         flaw = t.flaw;
-        joined = h.joined ∙ ap (λ l. spelling h.piece ++ l) t.joined;
-        formed = (subst (λ l. HasForm start h.piece l) t.joined h.form, h.short, t.formed);
+        joined = cc;
+        formed = (rw t.joined at h.form, h.short, t.formed);
         form = t.form;
         fault_is = t.fault_is ∙ rw append_assoc refl;
       }
 
   place_here : place_after (take (length before) (before ++ b ∷ bytes)) ≡ place_after before
-  place_here = ap place_after (take-append_seam before (b ∷ bytes))
+  place_here = cc (take-append_seam before (b ∷ bytes))
 
   -- the item at hand and then the rest, of which `later` tells
   from_item : (n : ℕ) → length (b ∷ bytes) ≤ suc n
@@ -115,12 +115,12 @@ module _ (before : List ℕ) (start : Bool) (b : ℕ) (bytes : List ℕ) where
   from_item n few later (Ok it) h =
       let some = some_bytes start h.piece h.rest h.form in
       let size = ap length h.joined in
-      let fewer : length h.rest ≤ n = omega (arith, few, size, some, length-append (spelling h.piece) h.rest) in
+      let fewer : length h.rest ≤ n = omega (arith, length-append (spelling h.piece) h.rest) in
       let then = later (before ++ spelling h.piece) h.rest (starts_behind start h.piece) fewer in
       let text : (before ++ spelling h.piece) ++ h.rest ≡ before ++ b ∷ bytes =
-      append_assoc before (spelling h.piece) h.rest ∙ ap (λ l. before ++ l) (sym h.joined) in
+      cc (append_assoc before (spelling h.piece) h.rest) in
       let place : length (before ++ spelling h.piece) ≡ length before + it.length =
-      omega (arith, length-append before (spelling h.piece), h.long) in
+      omega (arith, length-append before (spelling h.piece)) in
       let past =
       item_passed (before ++ b ∷ bytes) (starts_behind start h.piece) (spelling h.piece) h.rest b bytes it.length
       (length before) h.joined some h.long in
@@ -129,7 +129,7 @@ module _ (before : List ℕ) (start : Bool) (b : ℕ) (bytes : List ℕ) where
 pub outcome : (n : ℕ) (before rest : List ℕ) (start : Bool) → length rest ≤ n
     → Outcome before rest start (lexed_from (before ++ rest) 0 start (length before) rest)
 outcome n before [] start few = record { pieces = []; joined = refl; formed = tt; tokens_are = refl }
-outcome zero before (b ∷ bytes) start few = absurd (omega (arith, few))
+outcome zero before (b ∷ bytes) start few = absurd (omega arith)
 outcome (suc n) before (b ∷ bytes) start few =
     rw (place_here before start b bytes)
     (from_item before start b bytes n few (outcome n) (first_item start (b ∷ bytes)) (item_is start b bytes))

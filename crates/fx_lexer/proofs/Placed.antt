@@ -1,6 +1,6 @@
 -- The tokens of a text and its first fault are at places of the text.
 use Rattle.std.proofs.Common.{◌≡◌, ℕ, true, List, [], ◌∷◌, ◌++◌, length, Option, Some, None, Ok, Err, refl, sym, subst}
-use Rattle.std.proofs.Common.{◌∙◌, append_assoc}
+use Rattle.std.proofs.Common.{append_assoc}
 use Rattle.std.specs.List.{AllByRecursion}
 use Rattle.fx_lexer.specs.declared.token.Token.{Token}
 use Rattle.fx_lexer.specs.declared.token.Kind.{Kind}
@@ -19,7 +19,7 @@ tokens : (text before : List ℕ) (pieces : List Piece) → text ≡ before ++ t
 tokens text before [] e = tt
 tokens text before (p ∷ pieces) e =
     of_kind (kind_of p)
-    (tokens text (before ++ spelling p) pieces (e ∙ sym (append_assoc before (spelling p) (text_of pieces []))))
+    (tokens text (before ++ spelling p) pieces (cc (append_assoc before (spelling p) (text_of pieces []))))
   where
     of_kind : (kind : Option Kind)
         → AllByRecursion (λ (t : Token). IsPlaceIn text t.line t.column) (tokens_among (before ++ spelling p) pieces)
@@ -36,8 +36,7 @@ pub tokens_placed : (text : List ℕ) (all : List Token) → lexed text ≡ Ok a
     → AllByRecursion (λ (t : Token). IsPlaceIn text t.line t.column) all
 tokens_placed text all e =
     let made = made_of text all e in
-    subst (λ l. AllByRecursion (λ (t : Token). IsPlaceIn text t.line t.column) l) (sym made.tokens_are)
-    (tokens text [] made.pieces made.joined)
+    rw made.tokens_are (tokens text [] made.pieces made.joined)
 
 kinds : (flaw : Flaw) → is_lexical_rule (fault_kind flaw) ≡ true
 kinds (open_comment inside) = refl
@@ -61,7 +60,7 @@ fault_placed text fault e =
       place = record {
         before = text_of broken.pieces [];
         after = flaw_text broken.flaw;
-        joined = broken.joined ∙ text_of-append broken.pieces (flaw_text broken.flaw);
+        joined = cc (text_of-append broken.pieces (flaw_text broken.flaw));
         line_is = refl;
         column_is = refl;
       };

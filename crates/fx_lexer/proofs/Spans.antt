@@ -1,6 +1,6 @@
 -- The tokens among pieces, and where they lie.
 use Rattle.std.proofs.Common.{◌≡◌, ℕ, ◌+◌, ◌-◌, ◌<◌, ◌≤◌, Bool, true, List, [], ◌∷◌, ◌++◌, length, drop, map, Option}
-use Rattle.std.proofs.Common.{Some, None, Result, Ok, Err, refl, sym, ap, ap₂, subst, ◌∙◌, append_assoc, length-append}
+use Rattle.std.proofs.Common.{Some, None, Result, Ok, Err, refl, sym, ◌∙◌, append_assoc, length-append}
 use Rattle.std.proofs.Common.{append-nil, arith}
 use Rattle.std.specs.Prelude.{All, slice_range, filter_map, IfOk}
 use Rattle.std.specs.List.{cons_option}
@@ -21,12 +21,12 @@ use Rattle.fx_lexer.proofs.PiecesOfText.{some_bytes, Whole, text_is}
 module _ (before middle behind : List ℕ) (upto : ℕ) (end : upto ≡ length before + length middle) where
   pub middle_range : slice_range (before ++ (middle ++ behind)) (length before) upto ≡ middle
   middle_range =
-      let size : upto - length before ≡ length middle = omega (arith, end) in
+      let size : upto - length before ≡ length middle = omega arith in
       rw (size, drop-append_seam) (take-append_seam middle behind)
 
   pub behind_middle : drop upto (before ++ (middle ++ behind)) ≡ behind
   behind_middle =
-      let size : upto ≡ length (before ++ middle) = end ∙ sym (length-append before middle) in
+      let size = end ∙ sym (length-append before middle) in
       rw (size, ← append_assoc) (drop-append_seam (before ++ middle) behind)
 
 module _ (before : List ℕ) (p : Piece) (rest : List ℕ) (start : Bool) (form : HasForm start p rest)
@@ -38,13 +38,12 @@ module _ (before : List ℕ) (p : Piece) (rest : List ℕ) (start : Bool) (form 
         piece = p;
         start = start;
         kind = is;
-        line = ap (λ l. (place_after l).line) (sym (take-append_seam before (spelling p ++ rest)));
-        column = ap (λ l. (place_after l).column) (sym (take-append_seam before (spelling p ++ rest)));
+        line = cc (take-append_seam before (spelling p ++ rest));
+        column = cc (take-append_seam before (spelling p ++ rest));
         some = omega (arith, some_bytes start p rest form);
         inside = omega (arith, length-append before (spelling p ++ rest), length-append (spelling p) rest);
         bytes = middle_range before (spelling p) rest (length before + length (spelling p)) refl;
-        form = subst (λ l. HasForm start p l)
-            (sym (behind_middle before (spelling p) rest (length before + length (spelling p)) refl)) form;
+        form = rw (behind_middle before (spelling p) rest (length before + length (spelling p)) refl) form;
         short = short;
       }
 
@@ -80,7 +79,7 @@ module _ (before : List ℕ) (p : Piece) (rest : List ℕ) where
       ≡ cons_option (option_map (λ k. spelling p) o) texts
   text_first None tokens texts e = e
   text_first (Some k) tokens texts e =
-      ap₂ (λ x xs. x ∷ xs) (middle_range before (spelling p) rest (length before + length (spelling p)) refl) e
+      cc (middle_range before (spelling p) rest (length before + length (spelling p)) refl)
 
 -- the bytes of their spans are those of the pieces
 pub texts_among : (pieces : List Piece) (before : List ℕ)
@@ -94,8 +93,8 @@ texts_among (p ∷ pieces) before =
 
 order_sooner : (tokens : List Token) (from sooner upto : ℕ) → sooner ≤ from → AreInOrder from upto tokens
     → AreInOrder sooner upto tokens
-order_sooner [] from sooner upto e h = omega (arith, e, h)
-order_sooner (t ∷ tokens) from sooner upto e h = (omega (arith, e, h.0), h.1, h.2)
+order_sooner [] from sooner upto e h = omega arith
+order_sooner (t ∷ tokens) from sooner upto e h = (omega arith, h.1, h.2)
 
 order_first : (before : List ℕ) (p : Piece) (upto : ℕ) (o : Option Kind) (tokens : List Token)
     → 0 < length (spelling p)
@@ -104,7 +103,7 @@ order_first : (before : List ℕ) (p : Piece) (upto : ℕ) (o : Option Kind) (to
     (tokens_of_kind (place_after before) (length before) o (length (spelling p)) ++ tokens)
 order_first before p upto None tokens some h =
     order_sooner tokens (length before + length (spelling p)) (length before) upto (omega arith) h
-order_first before p upto (Some k) tokens some h = (omega arith, omega (arith, some), h)
+order_first before p upto (Some k) tokens some h = (omega arith, omega arith, h)
 
 -- they stand in order
 pub in_order : (pieces : List Piece) (before : List ℕ) (start : Bool) → AreFormed start pieces []

@@ -1,7 +1,6 @@
 -- What is read from pieces.
-use Rattle.std.proofs.Common.{◌≡◌, ℕ, ◌+◌, Bool, true, List, [], ◌∷◌, ◌++◌, length, take, Result, Ok, Err, refl, sym}
+use Rattle.std.proofs.Common.{◌≡◌, ℕ, ◌+◌, Bool, true, List, [], ◌∷◌, ◌++◌, length, take, Result, Ok, Err, refl}
 use Rattle.std.proofs.Common.{ap, ap₂, ◌∙◌, append_assoc, length-append, append-nil, add-zero, arith}
-use Rattle.std.specs.Prelude.{◌==◌}
 use Rattle.std.proofs.Math.Seq.{take-append_seam}
 use Rattle.fx_lexer.specs.declared.token.Token.{Token}
 use Rattle.fx_lexer.specs.declared.token.LexFault.{LexFault}
@@ -28,17 +27,17 @@ behind start (remark inside) rest b bytes joined form = refl
 behind start (word []) rest b bytes joined form = absurd (cc form.0)
 behind start (word (x ∷ name)) rest b bytes joined form =
     let same : b ≡ x = cc joined in
-    differs begins_word b 59 (ap begins_word same ∙ form.0) refl
+    differs begins_word b 59 (cc) refl
 behind start (whole digits) rest b bytes joined form =
     no_semicolon_number b (digit_first start b bytes digits rest form.0 joined form.1)
 behind start (decimal digits fraction) rest b bytes joined form =
     no_semicolon_number b
-    (point_or_digit start b bytes digits (fraction ++ rest) (joined ∙ append_assoc digits (46 ∷ fraction) rest)
+    (point_or_digit start b bytes digits (fraction ++ rest) (cc (append_assoc digits (46 ∷ fraction) rest))
     form.0)
 behind start (quoted q value) rest b bytes joined form =
     let same : b ≡ q = cc joined in
-    differs is_quote b 59 (ap is_quote same ∙ form.0) refl
-behind start (sign s) rest b bytes joined form = let same : b ≡ s = cc joined in ap (λ c. c == 59) same
+    differs is_quote b 59 (cc) refl
+behind start (sign s) rest b bytes joined form = let same : b ≡ s = cc joined in cc
 
 module _ (before : List ℕ) (start : Bool) (p : Piece) (rest : List ℕ) (form : HasForm start p rest)
     (short : HasAllowedLength p) where
@@ -48,7 +47,7 @@ module _ (before : List ℕ) (start : Bool) (p : Piece) (rest : List ℕ) (form 
       (lexed_from text 0 (starts_behind start p) (length before + length (spelling p)) rest)
   one_read text [] joined all =
       absurd (let size = ap length joined in
-      omega (arith, some_bytes start p rest form, size, length-append (spelling p) rest))
+      omega (arith, some_bytes start p rest form, length-append (spelling p) rest))
   one_read text (b ∷ bytes) joined all =
       let place =
       ap (λ l. place_after (take (length before) l)) all ∙ ap place_after
@@ -73,11 +72,11 @@ pieces_read (p ∷ pieces) before rest text start formed all =
     let first =
     one_read before start p (text_of pieces rest) formed.0 formed.1 text (spelling p ++ text_of pieces rest) refl
     all in
-    let size : length (before ++ spelling p) ≡ length before + length (spelling p) =
+    let size =
     length-append before (spelling p) in
     let later =
     pieces_read pieces (before ++ spelling p) rest text (starts_behind start p) formed.2
-    (all ∙ sym (append_assoc before (spelling p) (text_of pieces rest))) in
+    (cc (append_assoc before (spelling p) (text_of pieces rest))) in
     let far : length before + length (spelling p) + length (text_of pieces [])
     ≡ length before + length (spelling p ++ text_of pieces []) =
     omega (arith, length-append (spelling p) (text_of pieces [])) in
@@ -85,15 +84,13 @@ pieces_read (p ∷ pieces) before rest text start formed all =
 
 pub text_of-append : (pieces : List Piece) (rest : List ℕ) → text_of pieces rest ≡ text_of pieces [] ++ rest
 text_of-append [] rest = refl
-text_of-append (p ∷ pieces) rest = ap (λ l. spelling p ++ l) (text_of-append pieces rest)
-    ∙ sym (append_assoc (spelling p) (text_of pieces []) rest)
+text_of-append (p ∷ pieces) rest = cc (text_of-append pieces rest, append_assoc (spelling p) (text_of pieces []) rest)
 
 -- a text that is made of pieces has their tokens
 pub tokens_read : (text : List ℕ) (tokens : List Token) → IsMadeOf text tokens → lexed text ≡ Ok tokens
 unfolding lexed
 tokens_read text tokens h =
-    ap (lexed_from text 0 true 0) h.joined ∙ pieces_read h.pieces [] [] text true h.formed h.joined
-    ∙ ap (λ l. Ok l) (append-nil (tokens_among [] h.pieces) ∙ sym h.tokens_are)
+    cc (pieces_read h.pieces [] [] text true h.formed h.joined, append-nil (tokens_among [] h.pieces))
 
 fault_behind : (text : List ℕ) (start : Bool) (at : ℕ) (flaw : Flaw) (before bytes : List ℕ) → bytes ≡ flaw_text flaw
     → text ≡ before ++ bytes → at ≡ length before → IsFlaw start flaw
@@ -107,10 +104,10 @@ fault_behind text start at flaw before [] joined all size form = absurd (some_fl
     some_flaw (stray s rest) form e = cc e
     some_flaw (long_piece p rest) form e =
         let none = ap length e in
-        omega (arith, some_bytes start p rest form.0, none, length-append (spelling p) rest)
+        omega (arith, some_bytes start p rest form.0, length-append (spelling p) rest)
 fault_behind text start at flaw before (b ∷ bytes) joined all size form =
     let here = ap₂ take size all ∙ take-append_seam before (b ∷ bytes) in
-    rw (flaw_item start flaw b bytes joined form) (ap (λ l. Err (fault_at (place_after l) (fault_kind flaw))) here)
+    rw (flaw_item start flaw b bytes joined form) (cc)
 
 -- a text that breaks off has the fault of its flaw
 pub fault_found : (text : List ℕ) (fault : LexFault) → BreaksOff text fault → lexed text ≡ Err fault
@@ -121,6 +118,5 @@ fault_found text fault h =
     let first = pieces_read h.pieces [] rest text true h.formed h.joined in
     let then =
     fault_behind text start (0 + length (text_of h.pieces [])) h.flaw (text_of h.pieces []) rest refl
-    (h.joined ∙ text_of-append h.pieces rest) (omega arith) h.form in
-    ap (lexed_from text 0 true 0) h.joined ∙ first ∙ ap (in_front (tokens_among [] h.pieces)) then
-    ∙ ap (λ f. Err f) (sym h.fault_is)
+    (cc (text_of-append h.pieces rest)) (omega arith) h.form in
+    cc

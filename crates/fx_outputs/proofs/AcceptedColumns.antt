@@ -2,7 +2,7 @@
 use Rattle.std.proofs.Common.{◌≡◌, ◌≢◌, ℕ, ◌+◌, ◌^◌, ◌≤◌, Bool, true, false, ◌||◌, List, [], ◌∷◌, ◌++◌, length}
 use Rattle.std.proofs.Common.{get_or}
 use Rattle.std.proofs.Common.{Option, Some, None, Ok, refl, sym, subst, ◌∙◌, arith, drop, All}
-use Rattle.std.specs.Prelude.{◌==◌, nat_le, ◌&&◌, slice_get, if◌then◌else◌}
+use Rattle.std.specs.Prelude.{◌==◌, slice_get, if◌then◌else◌}
 use Rattle.std.specs.List.{AllByRecursion, list_any}
 use Rattle.std.proofs.lemmas.Bool.{leb-true, eq-eqb, eqb-true, and_parts, or_parts}
 use Rattle.std.proofs.lemmas.List.{length-append}
@@ -10,8 +10,8 @@ use Rattle.std.proofs.lemmas.List.Elements.{All-nil, All-push, recursion_from_Al
 use Rattle.std.proofs.lemmas.List.Quantifiers.{all_pairs_push, position-Some}
 use Rattle.std.proofs.lemmas.List.Folds.{list_any_at, list_any-append}
 use Rattle.fx_derived.specs.Codes.{ArePlaces}
-use Rattle.fx_language.specs.declared.symbol.Symbol.TheVariants.{CloseBracket, OpenBracket}
-use Rattle.fx_language.specs.Symbols.{is, is_output_option}
+use Rattle.fx_language.specs.declared.symbol.Symbol.TheVariants.{CloseBracket}
+use Rattle.fx_language.specs.Symbols.{is}
 use Rattle.fx_text.specs.Written.{Written}
 use Rattle.fx_text.specs.Names.{place_of, is_same_name}
 use Rattle.fx_text.specs.Phrases.{after, preceding}
@@ -32,7 +32,7 @@ use Rattle.fx_outputs.proofs.Accepted.{through, kept_if, kept_unless, as_many, w
 
 is_factor : (name : Written) (place : Option ℕ) (p : ℕ) → factor_at name place ≡ Ok p
     → (i : ℕ) × (place ≡ Some i) × (i + 1 ≡ p)
-is_factor name None p e = absurd (cc e)
+is_factor name None p e = cc e
 is_factor name (Some i) p e = (i, refl, cc e)
 
 module _ (context : Context) where
@@ -64,15 +64,15 @@ module _ (context : Context) where
         factor =
             record {
               from_1 = omega (arith, at.2, first.1);
-              a_factor = omega (arith, at.2, first.1, inside);
-              each_level = as_many context.q word (values_of rest) values enough;
+              a_factor = omega arith;
+              each_level = as_many context.q word _ values enough;
             };
-        unused = subst (λ n. is_used done n ≡ false) first.1 first.0;
+        unused = rw first.1 at first.0;
       } in
       subst (IsNext done) same sure)))
 
   true_false : (b : Bool) → b ≡ true → b ≡ false → ⊥
-  true_false b h k = let e : true ≡ false = sym h ∙ k in cc e
+  true_false b h k = let e = sym h ∙ k in cc e
 
   one_recode : (done : Columns) (recode : Recode) → AreColumns done → IsNext done recode
       → AreColumns (with_recode done recode)
@@ -115,8 +115,8 @@ module _ (context : Context) where
       from_1 = All-push (λ x. 1 ≤ x) places p h.different.from_1 low;
       factors = All-push (λ x. x ≤ length context.factors) places p h.different.factors high;
       different = all_pairs_push (λ (a b : ℕ). a ≢ b) places p h.different.different (λ k d below same.
-          true_false (list_any (λ x. x == p) places)
-          (list_any_at (λ x. x == p) places k d below (eq-eqb (get_or places k d) p same)) other);
+          true_false _
+          (list_any_at (λ x. x == p) places k d below (eq-eqb _ p same)) other);
     };
     unused = All-push (λ x. is_used done x ≡ false) places p h.unused fresh;
   }
@@ -133,20 +133,20 @@ module _ (context : Context) where
   all_places done (name ∷ names) earlier all h e =
       let place = place_of name.text context.factors in
       let Goal : Type 0 = ArePlacesOf done earlier (name ∷ names) all in
-      through (factor_at name place) _ all Goal e (λ factor told e.
-      through (unused_place (is_used done factor || list_any (λ p. p == factor) earlier) name factor) _ all Goal e
+      through _ _ all Goal e (λ factor told e.
+      through _ _ all Goal e
       (λ own fresh e.
       let at = is_factor name place factor told in
-      let inside = (position-Some (is_same_name name.text) context.factors at.0 [] at.1).0 in
+      let inside = (position-Some _ context.factors at.0 [] at.1).0 in
       let first =
       kept_unless (is_used done factor || list_any (λ p. p == factor) earlier) factor own (refusal_at 28 name) fresh in
       let parts = or_parts (is_used done factor) (list_any (λ p. p == factor) earlier) first.0 in
-      let added : AreUnused done (earlier ++ own ∷ []) =
+      let added =
       one_place done earlier own (omega (arith, at.2, first.1)) (omega (arith, at.2, first.1, inside))
-      (subst (λ n. is_used done n ≡ false) first.1 parts.0)
-      (subst (λ n. list_any (λ p. p == n) earlier ≡ false) first.1 parts.1) h in
+      (rw first.1 at parts.0)
+      (rw first.1 at parts.1) h in
       let rest = all_places done names (earlier ++ own ∷ []) all added e in
-      record { unused = rest.unused; count = omega (arith, rest.count, length-append earlier (own ∷ [])) }))
+      record { unused = rest.unused; count = omega (arith, length-append earlier (own ∷ [])) }))
 
   -- a derived factor that is accepted
   record IsNextDerived (done : Columns) (d : Derived) : Type 0 where
@@ -159,11 +159,11 @@ module _ (context : Context) where
   sized : (count : ℕ) (bracket : Written) (u : Unit {0}) → check_size context.q count bracket ≡ Ok u
       → (2 ≤ count) × (count ≤ 4) × (context.q ^ count ≤ 64)
   sized count bracket u e =
-      let kept = kept_if (nat_le 2 count && nat_le count 4 && nat_le (context.q ^ count) 64) tt u
-      (refusal_at 35 bracket) e in
-      let all = and_parts (nat_le 2 count && nat_le count 4) (nat_le (context.q ^ count) 64) kept.0 in
-      let few = and_parts (nat_le 2 count) (nat_le count 4) all.0 in
-      (leb-true 2 count few.0, leb-true count 4 few.1, leb-true (context.q ^ count) 64 all.1)
+      let kept = kept_if _ tt u
+      _ e in
+      let all = and_parts _ _ kept.0 in
+      let few = and_parts _ _ all.0 in
+      (leb-true 2 count few.0, leb-true count 4 few.1, leb-true _ 64 all.1)
 
   next_derived : (done : Columns) (bracket : Written) (rest : List Written) (d : Derived)
       → derived_of context done bracket rest ≡ Ok d → IsNextDerived done d
@@ -176,7 +176,7 @@ module _ (context : Context) where
       through (values_if_any (Some (context.q ^ length names)) (drop 2 behind)) _ d Goal e
       (λ values given e.
       let known = all_places done names [] places (no_places done) told in
-      let count : length places ≡ length names = omega (arith, known.count) in
+      let count : length places ≡ length names = omega arith in
       let limits = sized (length names) bracket u size in
       let made : Derived = record { places = places; name = name_or_empty (slice_get behind 1); values = values } in
       let same : made ≡ d = cc e in
@@ -185,7 +185,7 @@ module _ (context : Context) where
         some = rw count limits.0;
         few = rw count limits.1;
         levels = rw count limits.2;
-        values = rw count (wanted_values (context.q ^ length names) (drop 2 behind) values given);
+        values = rw count (wanted_values _ _ values given);
       } in
       subst (IsNextDerived done) same sure)))
 
@@ -194,15 +194,12 @@ module _ (context : Context) where
       → has_values done.recodes r.place ≡ true → list_any (λ p. p == r.place) places ≡ true → ⊥
   not_among done [] r h has found = cc found
   not_among done (p ∷ places) r h has found =
-      by_test (λ e. not_among done places r h.1 has e) (p == r.place) refl
+      by_test (not_among done places r h.1 has) (p == r.place) refl
     where
       by_test : (list_any (λ x. x == r.place) places ≡ true → ⊥) → (b : Bool) → (p == r.place) ≡ b → ⊥
       by_test later true same =
-          let here : is_used done p ≡ false = h.0 in
-          let is : p ≡ r.place = eqb-true p r.place same in
-          let parts = or_parts (has_values done.recodes p) (is_bracketed done.derived p) here in
-          true_false (has_values done.recodes r.place) has
-          (subst (λ n. has_values done.recodes n ≡ false) is parts.0)
+          true_false _ has
+          (rw (eqb-true p r.place same) at (or_parts (has_values done.recodes p) (is_bracketed done.derived p) h.0).0)
       by_test later false other = later (rw other at found)
 
   one_derived : (done : Columns) (d : Derived) → AreColumns done → IsNextDerived done d
@@ -220,8 +217,8 @@ module _ (context : Context) where
           h.derived.values is_next.values;
     };
     free = λ k r low taken.
-        let recode : Recode = get_or done.recodes k r in
-        let own : has_values done.recodes recode.place ≡ true =
+        let recode = get_or done.recodes k r in
+        let own =
         list_any_at (λ (x : Recode). x.place == recode.place) done.recodes k r low
         (eq-eqb recode.place recode.place refl) in
         not_both done d is_next recode own (h.free k r low) taken;
@@ -231,9 +228,8 @@ module _ (context : Context) where
           → has_values done.recodes r.place ≡ true → is_bracketed done.derived r.place ≢ true
           → is_bracketed (done.derived ++ d ∷ []) r.place ≢ true
       not_both done d is_next r own free taken =
-          let parts =
-          list_any-append (λ (x : Derived). list_any (λ p. p == r.place) x.places) done.derived (d ∷ []) in
-          by_test (is_bracketed done.derived r.place) refl (sym parts ∙ taken)
+          by_test (is_bracketed done.derived r.place) refl
+          (cc (list_any-append (λ (x : Derived). list_any (λ p. p == r.place) x.places) done.derived (d ∷ [])))
         where
           by_test : (b : Bool) → is_bracketed done.derived r.place ≡ b
               → (is_bracketed done.derived r.place || (list_any (λ p. p == r.place) d.places || false)) ≡ true → ⊥
@@ -242,28 +238,28 @@ module _ (context : Context) where
             where
               last : (b : Bool) → list_any (λ p. p == r.place) d.places ≡ b → (b || false) ≡ true → ⊥
               last true found e = not_among done d.places r
-                  (recursion_from_All (λ p. is_used done p ≡ false) d.places is_next.unused.unused) own found
+                  (recursion_from_All _ d.places is_next.unused.unused) own found
               last false found e = cc e
 
   of_recode : (done now : Columns) (name : Written) (rest : List Written) → AreColumns done
       → recode_at context done name rest ≡ Ok now → AreColumns now
   of_recode done now name [] h e = let same : done ≡ now = cc e in subst AreColumns same h
   of_recode done now name (word ∷ rest) h e =
-      through (recode_of context done name word rest) _ now (AreColumns now) e (λ recode read e.
+      through _ _ now _ e (λ recode read e.
       let same : with_recode done recode ≡ now = cc e in
       subst AreColumns same (one_recode done recode h (next done name word rest recode read)))
 
   of_column : (done now : Columns) (option : List Written) → AreColumns done
       → column_of context done option ≡ Ok now → AreColumns now
   of_column done now [] h e = let same : done ≡ now = cc e in subst AreColumns same h
-  of_column done now (first ∷ rest) h e = by_test (is OpenBracket first.symbol) (is_output_option first.symbol) e
+  of_column done now (first ∷ rest) h e = by_test _ _ e
     where
       by_test : (b option : Bool)
           → (if b then (derived_of context done first rest >>= λ d. Ok (with_derived done d))
           else (if option then Ok done else recode_at context done first rest)) ≡ Ok now
           → AreColumns now
       by_test true option e =
-          through (derived_of context done first rest) _ now (AreColumns now) e (λ d read e.
+          through _ _ now _ e (λ d read e.
           let same : with_derived done d ≡ now = cc e in
           subst AreColumns same (one_derived done d h (next_derived done first rest d read)))
       by_test false true e = let same : done ≡ now = cc e in subst AreColumns same h
@@ -273,7 +269,7 @@ module _ (context : Context) where
       → columns_behind context done options ≡ Ok all → AreColumns all
   of_columns done all [] h e = let same : done ≡ all = cc e in subst AreColumns same h
   of_columns done all (option ∷ options) h e =
-      through (column_of context done option) _ all (AreColumns all) e
+      through _ _ all _ e
       (λ now read e. of_columns now all options (of_column done now option h read) e)
 
   none_yet : AreColumns (record { recodes = []; derived = [] })
@@ -286,4 +282,4 @@ module _ (context : Context) where
 
   pub all_columns : (options : List (List Written)) (all : Columns)
       → columns_of context options ≡ Ok all → AreColumns all
-  all_columns options all e = of_columns (record { recodes = []; derived = [] }) all options none_yet e
+  all_columns options all e = of_columns _ all options none_yet e

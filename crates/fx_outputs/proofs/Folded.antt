@@ -1,5 +1,6 @@
 -- Names that are found by their lowercase forms.
-use Rattle.std.proofs.Common.{◌≡◌, ℕ, ◌+◌, ◌++◌, ◌∷◌, [], Bool, true, false, cond, List, Vec, length, Option, Some, None}
+use Rattle.std.proofs.Common.{◌≡◌, ℕ, ◌+◌, ◌++◌, ◌∷◌, [], Bool, true, false, cond, List, Vec, length, Option, Some}
+use Rattle.std.proofs.Common.{None}
 use Rattle.std.proofs.Common.{refl, sym, ap, ap₂, ◌∙◌, arith}
 use Rattle.std.specs.Map.{lookup}
 use Rattle.std.specs.List.{position_from}
@@ -49,26 +50,25 @@ module _ {A : Type 0} (form : List ℕ) (key : Vec ℕ A) (number : ℕ) where
   by_order x w entries Equal is rest =
       let same : key.items ≡ x.items =
       (bytes_eq-Decides key.items x.items).0 (sym (is_eq-slice_cmp key.items x.items) ∙ ap is_eq is) in
-      let alike : is_it key ≡ is_it x = ap (bytes_eq form) same in
+      let alike : is_it key ≡ is_it x = cc in
       rw alike (twice (is_it x) number w (lookup is_it entries))
   by_order x w entries Greater is rest =
-      let differ : bytes_eq key.items x.items ≡ false = sym (is_eq-slice_cmp key.items x.items) ∙ ap is_eq is in
       rw rest
-      (other_first (is_it x) (is_it key) number w (lookup is_it entries)
-      (λ one two. both_ways (bytes_eq key.items x.items) differ
+      (other_first _ _ number w _
+      (λ one two. both_ways _ (sym (is_eq-slice_cmp key.items x.items) ∙ ap is_eq is)
       ((bytes_eq-Decides key.items x.items).1 (sym (is_form key two) ∙ is_form x one))))
 
   pub inserted : (entries : List (Vec ℕ A × ℕ))
       → lookup is_it (insert_entry order entries key number) ≡ cond (is_it key) (Some number) (lookup is_it entries)
   inserted [] = refl
-  inserted ((x, w) ∷ entries) = by_order x w entries (order key x) refl (inserted entries)
+  inserted ((x, w) ∷ entries) = by_order x w entries _ refl (inserted entries)
 
 -- the place of a name among some with one more
 module _ (p : List ℕ → Bool) where
   behind : (i : ℕ) (xs : List (List ℕ)) (y : List ℕ)
       → position_from p i (xs ++ y ∷ []) ≡ option_or (position_from p i xs) (cond (p y) (Some (i + length xs)) None)
-  behind i [] y = ap (λ (n : ℕ). cond (p y) (Some n) None) (omega arith)
-  behind i (x ∷ xs) y = by_test (p x) (behind (i + 1) xs y)
+  behind i [] y = ap (λ n. cond (p y) (Some n) None) (omega arith)
+  behind i (x ∷ xs) y = by_test _ (behind (i + 1) xs y)
     where
       by_test : (b : Bool)
           → position_from p (i + 1) (xs ++ y ∷ [])
@@ -77,7 +77,7 @@ module _ (p : List ℕ → Bool) where
           ≡ option_or (cond b (Some i) (position_from p (i + 1) xs)) (cond (p y) (Some (i + length (x ∷ xs))) None)
       by_test true later = refl
       by_test false later =
-          later ∙ ap (λ (n : ℕ). option_or (position_from p (i + 1) xs) (cond (p y) (Some n) None)) (omega arith)
+          later ∙ ap (λ n. option_or (position_from p (i + 1) xs) (cond (p y) (Some n) None)) (omega arith)
 
 place-more : (q : List ℕ) (names : List (List ℕ)) (name : List ℕ)
     → place_of q (names ++ name ∷ [])
@@ -85,11 +85,12 @@ place-more : (q : List ℕ) (names : List (List ℕ)) (name : List ℕ)
 place-more q names name =
     position_from-zero (is_same_name q) (names ++ name ∷ [])
     ∙ behind (is_same_name q) 0 names name
-    ∙ ap₂ (λ (o : Option ℕ) (n : ℕ). option_or o (cond (is_same_name q name) (Some n) None))
+    ∙ ap₂ (λ o n. option_or o (cond (is_same_name q name) (Some n) None))
     (sym (position_from-zero (is_same_name q) names)) (omega arith)
 
-joined : (b : Bool) (o : Option ℕ) (n : ℕ) → (b ≡ true → o ≡ None) → cond b (Some n) o ≡ option_or o (cond b (Some n) None)
-joined true o n h = rw (h refl) refl
+joined : (b : Bool) (o : Option ℕ) (n : ℕ) → (b ≡ true → o ≡ None)
+    → cond b (Some n) o ≡ option_or o (cond b (Some n) None)
+joined true o n h = rw (h refl)
 joined false None n h = refl
 joined false (Some i) n h = refl
 
@@ -99,11 +100,12 @@ pub numbered-more : {A : Type 0} (names : List (List ℕ)) (entries : List (Vec 
     → AreNumbered (names ++ name ∷ [])
     (insert_entry (λ (x y : Vec ℕ A). slice_cmp nat_cmp x.items y.items) entries key (length names))
 numbered-more {A = A} names entries name key is new h = λ q.
-    inserted (str_to_ascii_lowercase q) key (length names) entries
-    ∙ ap₂ (λ (b : Bool) (o : Option ℕ). cond b (Some (length names)) o) (ap (bytes_eq (str_to_ascii_lowercase q)) is)
-    (h q)
-    ∙ joined (is_same_name q name) (place_of q names) (length names) (absent q)
-    ∙ sym (place-more q names name)
+    cc (
+      inserted (str_to_ascii_lowercase q) key (length names) entries,
+      h q,
+      joined _ _ (length names) (absent q),
+      place-more q names name,
+    )
   where
     -- the same name is as new
     absent : (q : List ℕ) → is_same_name q name ≡ true → place_of q names ≡ None
@@ -111,7 +113,7 @@ numbered-more {A = A} names entries name key is new h = λ q.
         let forms : str_to_ascii_lowercase q ≡ str_to_ascii_lowercase name =
         (bytes_eq-Decides (str_to_ascii_lowercase q) (str_to_ascii_lowercase name)).0 same in
         sym (h q)
-        ∙ ap (λ (f : List ℕ). lookup (λ (x : Vec ℕ A). bytes_eq f x.items) entries) forms
+        ∙ ap (λ f. lookup (λ (x : Vec ℕ A). bytes_eq f x.items) entries) forms
         ∙ h name
         ∙ new
 
@@ -121,4 +123,4 @@ pub same_form : {A : Type 0} (form : List ℕ) (entries : List (Vec ℕ A × ℕ
     ≡ lookup (λ (x : Vec ℕ A). bytes_eq form x.items) entries
 same_form form [] = refl
 same_form form ((x, n) ∷ entries) =
-    ap₂ (λ (b : Bool) (o : Option ℕ). cond b (Some n) o) (is_eq-slice_cmp form x.items) (same_form form entries)
+    cc (is_eq-slice_cmp form x.items, same_form form entries)

@@ -14,41 +14,38 @@ module _ {A B : Type 0} (f : List B → A → B) where
   pub built-length : (done : List B) (xs : List A) → length (built f done xs) ≡ length done + length xs
   built-length done [] = omega arith
   built-length done (x ∷ xs) =
-      let more = length-append done (f done x ∷ []) in
-      let all = built-length (done ++ f done x ∷ []) xs in
-      omega arith
+      omega (arith, length-append done (f done x ∷ []), built-length (done ++ f done x ∷ []) xs)
 
   -- the values so far stay the first
   pub built-kept : (done : List B) (xs : List A) (j : ℕ) (d : B) → j < length done
       → get_or (built f done xs) j d ≡ get_or done j d
   built-kept done [] j d low = refl
   built-kept done (x ∷ xs) j d low =
-      let more = length-append done (f done x ∷ []) in
-      built-kept (done ++ f done x ∷ []) xs j d (omega arith)
+      built-kept (done ++ f done x ∷ []) xs j d (omega (arith, length-append done (f done x ∷ [])))
       ∙ get_or_append_left done (f done x ∷ []) d j low
 
   -- as many values as items
   pub built-as_many : (xs : List A) (k : ℕ) → k ≤ length xs → length (built f [] (take k xs)) ≡ k
   built-as_many xs k within =
-      let all = built-length [] (take k xs) in
-      let taken = length-take-le k xs within in
-      omega arith
+      omega (arith, built-length [] (take k xs), length-take-le k xs within)
 
   built-parts : (xs : List A) (k : ℕ) → built f [] xs ≡ built f (built f [] (take k xs)) (drop k xs)
-  built-parts xs k = ap (built f []) (sym (take-append-drop k xs)) ∙ built-append [] (take k xs) (drop k xs)
+  built-parts xs k = cc (take-append-drop k xs, built-append [] (take k xs) (drop k xs))
 
   -- the first k values are those of the first k items
   pub built-take : (xs : List A) (k j : ℕ) (d : B) → k ≤ length xs → j < k
       → get_or (built f [] (take k xs)) j d ≡ get_or (built f [] xs) j d
   built-take xs k j d within low =
-      let many = built-as_many xs k within in
-      sym (ap (λ (l : List B). get_or l j d) (built-parts xs k)
-      ∙ built-kept (built f [] (take k xs)) (drop k xs) j d (omega arith))
+      cc (
+        built-parts xs k,
+        built-kept (built f [] (take k xs)) (drop k xs) j d
+            (omega (arith, built-as_many xs k within)),
+      )
 
   -- and no others
   pub built-past : (xs : List A) (k j : ℕ) (d : B) → k ≤ length xs → k ≤ j → get_or (built f [] (take k xs)) j d ≡ d
   built-past xs k j d within high =
-      let many = built-as_many xs k within in get_or_past (built f [] (take k xs)) j d (omega arith)
+      get_or_past _ j d (omega (arith, built-as_many xs k within))
 
   -- the value of the item at k
   pub built-at : (xs : List A) (k : ℕ) (d : B) (e : A) → k < length xs
@@ -58,17 +55,19 @@ module _ {A B : Type 0} (f : List B → A → B) where
       let x : A = get_or xs k e in
       let many : length now ≡ k = built-as_many xs k (omega arith) in
       let one = length-append now (f now x ∷ []) in
-      ap (λ (l : List B). get_or l k d) (built-parts xs k ∙ ap (built f now) (drop_more xs k e low))
+      ap (λ l. get_or l k d) (built-parts xs k ∙ ap (built f now) (drop_more xs k e low))
       ∙ built-kept (now ++ f now x ∷ []) (drop (k + 1) xs) k d (omega arith)
-      ∙ ap (λ (i : ℕ). get_or (now ++ f now x ∷ []) i d) (sym many)
+      ∙ ap (λ i. get_or (now ++ f now x ∷ []) i d) (sym many)
       ∙ get_or-append_seam now (f now x) [] d
 
 module _ {A B : Type 0} (f : List A → A → List B) where
   pub added-append : (earlier xs ys : List A)
       → added f earlier (xs ++ ys) ≡ added f earlier xs ++ added f (earlier ++ xs) ys
-  added-append earlier [] ys = ap (λ (l : List A). added f l ys) (sym (append-nil earlier))
+  added-append earlier [] ys = cc (append-nil earlier)
   added-append earlier (x ∷ xs) ys =
-      ap (λ (l : List B). f earlier x ++ l)
-      (added-append (earlier ++ x ∷ []) xs ys
-      ∙ ap (λ (l : List A). added f (earlier ++ x ∷ []) xs ++ added f l ys) (append_assoc earlier (x ∷ []) xs))
-      ∙ sym (append_assoc (f earlier x) (added f (earlier ++ x ∷ []) xs) (added f (earlier ++ x ∷ xs) ys))
+      cc (
+        added-append (earlier ++ x ∷ []) xs ys,
+        append_assoc earlier (x ∷ []) xs,
+        append_assoc (f earlier x)
+            (added f (earlier ++ x ∷ []) xs) (added f (earlier ++ x ∷ xs) ys),
+      )

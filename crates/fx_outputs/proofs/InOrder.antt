@@ -1,6 +1,5 @@
 -- The factors in brackets are read from left to right.
 use Rattle.std.proofs.Common.{◌≡◌, ℕ, ◌||◌, Bool, List, [], ◌∷◌, ◌++◌, Ok, Err}
-use Rattle.std.proofs.Common.{refl}
 use Rattle.std.specs.Prelude.{◌==◌}
 use Rattle.std.specs.List.{list_any}
 use Rattle.fx_text.specs.declared.refusal.Refusal.{Refusal}
@@ -15,8 +14,8 @@ module _ (context : Context) (done : Columns) (earlier : List ℕ) (name : Writt
     (taken : used ≡ (is_used done factor || list_any (λ p. p == factor) earlier)) where
   pub place_refused : (refusal : Refusal) → Err refusal ≡ unused_place used name factor
       → places_behind context done earlier (name ∷ names) ≡ Err refusal
-  place_refused refusal h = rw (← told, ← taken, ← h) refl
+  place_refused refusal h = rw (← told, ← taken, ← h)
 
   pub place_read : (place : ℕ) → Ok place ≡ unused_place used name factor
       → places_behind context done earlier (name ∷ names) ≡ places_behind context done (earlier ++ place ∷ []) names
-  place_read place h = rw (← told, ← taken, ← h) refl
+  place_read place h = rw (← told, ← taken, ← h)

@@ -1,14 +1,13 @@
 -- Every output of a step that is accepted keeps the step's limits.
-use Rattle.std.proofs.Common.{◌≡◌, ℕ, ◌*◌, ◌≤◌, Bool, true, false, List, [], ◌∷◌, ◌++◌, length, drop, Result, Ok, Err}
+use Rattle.std.proofs.Common.{◌≡◌, ℕ, ◌*◌, ◌≤◌, Bool, true, false, List, [], ◌∷◌, ◌++◌, length, Result, Ok, Err}
 use Rattle.std.proofs.Common.{refl, sym, ap, subst, ◌∙◌}
 use Rattle.std.specs.Prelude.{All, if◌then◌else◌, slice_get}
 use Rattle.std.proofs.lemmas.List.Elements.{All-nil, All-push}
-use Rattle.fx_language.specs.declared.symbol.Symbol.TheVariants.{Output, Pointrep, Designrep, Blockname}
+use Rattle.fx_language.specs.declared.symbol.Symbol.TheVariants.{Pointrep, Designrep}
 use Rattle.fx_language.specs.Symbols.{is}
 use Rattle.fx_text.specs.declared.refusal.Refusal.{Refusal}
 use Rattle.fx_text.specs.Written.{Written}
 use Rattle.fx_text.specs.Refusals.{◌>>=◌}
-use Rattle.fx_outputs.specs.declared.derived.Derived.{Derived}
 use Rattle.fx_outputs.specs.declared.earlier.EarlierPlan.{EarlierPlan}
 use Rattle.fx_outputs.specs.declared.output.OutputSpec.{OutputSpec}
 use Rattle.fx_outputs.specs.declared.replication.Rep.{Rep}
@@ -27,8 +26,7 @@ rows_by : (earlier : List EarlierPlan) (runs each all : ℕ) (point design : Rep
     → design ≡ Times all
     → runs * rep_rows earlier point * rep_rows earlier design ≤ 200000 → runs * each * all ≤ 200000
 rows_by earlier runs each all point design e1 e2 h =
-    subst (λ (r : Rep). runs * each * rep_rows earlier r ≤ 200000) e2
-    (subst (λ (r : Rep). runs * rep_rows earlier r * rep_rows earlier design ≤ 200000) e1 h)
+    rw e2 at (rw e1 at h)
 
 module _ (context : Context) where
   output_within : (earlier : List EarlierPlan) (word name : Written) (s : List (List Written)) (output : OutputSpec)
@@ -41,12 +39,12 @@ module _ (context : Context) where
         pointrep = record {
           some =
               λ n is. repeated earlier (slice_get (option_of Pointrep s) 2) n
-              (reps.point ∙ ap (λ (r : Rep). Ok r) is);
+              (reps.point ∙ ap (λ r. Ok r) is);
         };
         designrep = record {
           some =
               λ n is. repeated earlier (slice_get (option_of Designrep s) 2) n
-              (reps.design ∙ ap (λ (r : Rep). Ok r) is);
+              (reps.design ∙ ap (λ r. Ok r) is);
         };
         rows =
             λ each all e1 e2. rows_by earlier context.runs each all output.pointrep output.designrep e1 e2
@@ -55,10 +53,9 @@ module _ (context : Context) where
         derived =
             subst (AreDerived context.q (length context.factors)) (sym t.derived_are) known.derived;
         free =
-            subst (λ (d : List Derived). AreFree d output.recodes) (sym t.derived_are)
-            (subst (AreFree t.columns.derived) (sym t.recodes_are) known.free);
+            rw t.derived_are (subst (AreFree t.columns.derived) (sym t.recodes_are) known.free);
         block_values =
-            values_of_blocks context.blocks (drop 3 (option_of Blockname s))
+            values_of_blocks context.blocks _
             output.block_values t.values;
       }
 
@@ -71,7 +68,7 @@ module _ (context : Context) where
       → All (IsWithinLimits context) outputs
       → (if flag then (read >>= later) else passed) ≡ Ok all → All (IsWithinLimits context) all
   first outputs all false read later passed within go pass h e = pass e
-  first outputs all true (Err refusal) later passed within go pass h e = absurd (cc e)
+  first outputs all true (Err refusal) later passed within go pass h e = cc e
   first outputs all true (Ok output) later passed within go pass h e =
       go output (All-push (IsWithinLimits context) outputs output h (within output refl)) e
 
@@ -84,15 +81,14 @@ module _ (context : Context) where
   within ((a ∷ b ∷ []) ∷ rest) earlier outputs all h e = within rest earlier outputs all h e
   within ((a ∷ b ∷ c ∷ []) ∷ rest) earlier outputs all h e = within rest earlier outputs all h e
   within ((a ∷ b ∷ c ∷ d ∷ options) ∷ rest) earlier outputs all h e =
-      first outputs all (is Output a.symbol) (output_spec context earlier a d (options_of (d ∷ options)))
-      (λ output. outputs_behind context (earlier ++ plan_behind context earlier output ∷ []) (outputs ++ output ∷ [])
-      rest)
-      (outputs_behind context earlier outputs rest)
+      first outputs all _ _
+      _
+      _
       (output_within earlier a d (options_of (d ∷ options)))
       (λ output good more. within rest (earlier ++ plan_behind context earlier output ∷ []) (outputs ++ output ∷ []) all
       good more)
-      (λ more. within rest earlier outputs all h more) h e
+      (within rest earlier outputs all h) h e
 
   pub all_within : (earlier : List EarlierPlan) (statements : List (List Written)) (all : List OutputSpec)
       → outputs_of context earlier statements ≡ Ok all → All (IsWithinLimits context) all
-  all_within earlier statements all e = within statements earlier [] all (All-nil (IsWithinLimits context)) e
+  all_within earlier statements all e = within statements earlier [] all (All-nil _) e

@@ -12,7 +12,7 @@ use Rattle.fx_language.specs.declared.symbol.Symbol.TheVariants.{Pointrep, Rando
 use Rattle.fx_language.specs.Symbols.{is, is_output_option, is_word}
 use Rattle.fx_text.specs.declared.refusal.Refusal.{Refusal}
 use Rattle.fx_text.specs.Names.{IsName, is_same_name, place_of}
-use Rattle.fx_text.specs.Refusals.{refusal_at, ◌>>=◌}
+use Rattle.fx_text.specs.Refusals.{◌>>=◌}
 use Rattle.fx_text.specs.Sentences.{HasNames, IsAccepted, symbols_in}
 use Rattle.fx_language.specs.Shapes.{Matches}
 use Rattle.fx_language.specs.Grammar as grammar
@@ -50,7 +50,7 @@ module _ (context : Context) (Q : List Written → Type 0) (P : List EarlierPlan
       → (passed ≡ Ok all → (last : List EarlierPlan) × P last all)
       → (if flag then (given >>= later) else passed) ≡ Ok all → (last : List EarlierPlan) × P last all
   one earlier outputs all false given later passed here go pass e = pass e
-  one earlier outputs all true (Err refusal) later passed here go pass e = absurd (cc e)
+  one earlier outputs all true (Err refusal) later passed here go pass e = cc e
   one earlier outputs all true (Ok output) later passed here go pass e = go output (here output refl refl) e
 
   pub holds_of_all : (statements : List (List Written)) (earlier : List EarlierPlan) (outputs all : List OutputSpec)
@@ -62,14 +62,13 @@ module _ (context : Context) (Q : List Written → Type 0) (P : List EarlierPlan
   holds_of_all ((a ∷ b ∷ []) ∷ rest) earlier outputs all each h e = holds_of_all rest earlier outputs all each.1 h e
   holds_of_all ((a ∷ b ∷ c ∷ []) ∷ rest) earlier outputs all each h e = holds_of_all rest earlier outputs all each.1 h e
   holds_of_all ((a ∷ b ∷ c ∷ d ∷ options) ∷ rest) earlier outputs all each h e =
-      one earlier outputs all (is Output a.symbol) (output_spec context earlier a d (options_of (d ∷ options)))
-      (λ output. outputs_behind context (earlier ++ plan_behind context earlier output ∷ []) (outputs ++ output ∷ [])
-      rest)
-      (outputs_behind context earlier outputs rest)
+      one earlier outputs all _ _
+      _
+      _
       (λ output begun taken. read earlier outputs a b c d options output each.0 begun taken h)
       (λ output good more. holds_of_all rest (earlier ++ plan_behind context earlier output ∷ [])
       (outputs ++ output ∷ []) all each.1 good more)
-      (λ more. holds_of_all rest earlier outputs all each.1 h more) e
+      (holds_of_all rest earlier outputs all each.1 h) e
 
 -- BLOCKNAME, `=` and a name
 record HasBlockName (written : List Written) : Type 0 where
@@ -101,19 +100,19 @@ block_option o (inr (inr (inr (inr (inr (inr (x, y, (w, hw, ew), h, i))))))) =
 block_found : (options : List (List Written)) → AllByRecursion (λ o. Matches grammar.option (symbols_in o)) options
     → (option_of Blockname options ≡ []) ⊎ HasBlockName (option_of Blockname options)
 block_found [] each = inl refl
-block_found (o ∷ options) each = by_test (begins Blockname o) refl (block_found options each.1)
+block_found (o ∷ options) each = by_test _ refl (block_found options each.1)
   where
     by_test : (b : Bool) → begins Blockname o ≡ b
         → (option_of Blockname options ≡ []) ⊎ HasBlockName (option_of Blockname options)
         → ((if b then o else option_of Blockname options) ≡ [])
         ⊎ HasBlockName (if b then o else option_of Blockname options)
-    by_test true begun later = inr (block_option o (reads grammar.option o (symbols_in o) refl each.0) begun)
+    by_test true begun later = inr (block_option o (reads grammar.option o _ refl each.0) begun)
     by_test false other later = later
 
 is_free : (factors : List (List ℕ)) (name : List ℕ) (w : Written) → check_free factors name w ≡ Ok tt
     → place_of name factors ≡ None
 is_free factors name w e =
-    not_found (place_of name factors) (unless (is_some (place_of name factors)) (refusal_at 5 w) e)
+    not_found _ (unless _ _ e)
 
 pub its_names : (context : Context) (earlier : List EarlierPlan) (a b c d : Written) (options : List Written)
     (output : OutputSpec)
@@ -125,11 +124,11 @@ its_names context earlier a b c d options output accepted begun e =
     let r = options_law (a ∷ b ∷ c ∷ d ∷ options) (accepted.by_its_word.output begun) in
     let here : d ≡ r.name = cc r.statement in
     let others : options ≡ r.options = cc r.statement in
-    let name : IsName d.text =
-    accepted.names.1.1.1.0 (subst (λ (w : Written). is_word w.symbol ≡ true) (sym here) r.is_name) in
+    let name =
+    accepted.names.1.1.1.0 (rw (← here) at r.is_name) in
     let found =
     block_found all
-    (subst (λ (l : List Written). AllByRecursion (λ o. Matches grammar.option (symbols_in o)) (options_of l))
+    (subst (λ l. AllByRecursion (λ o. Matches grammar.option (symbols_in o)) (options_of l))
     (sym (ap₂ (λ (w : Written) (l : List Written). w ∷ l) here others)) r.each) in
     let names =
     parts.option (λ w. is_word w.symbol ≡ true → IsName w.text) Blockname all
@@ -137,47 +136,43 @@ its_names context earlier a b c d options output accepted begun e =
     record {
       name = subst IsName (sym t.name_is) name;
       block_name =
-          subst (λ n. n ≢ [] → IsName n) (sym t.block_name_is)
-          (block_name (option_of Blockname all) names found);
-      column = λ with_blocks. subst (λ n. place_of (column_name n) context.factors ≡ None) (sym t.block_name_is)
-          (column (option_of Blockname all) names found with_blocks t.free);
-      no_column = λ without. t.block_name_is ∙ no_column (option_of Blockname all) without t.named;
+          rw t.block_name_is (block_name _ names found);
+      column = λ with_blocks. rw t.block_name_is (column _ names found with_blocks t.free);
+      no_column = λ without. cc (no_column _ without t.named);
     }
   where
     block_name : (f : List Written) → HasNames f → (f ≡ []) ⊎ HasBlockName f → name_or_empty (slice_get f 2) ≢ []
         → IsName (name_or_empty (slice_get f 2))
-    block_name f names (inl empty) some = absurd (some (ap (λ (l : List Written). name_or_empty (slice_get l 2)) empty))
+    block_name f names (inl empty) some = absurd (some (ap (λ l. name_or_empty (slice_get l 2)) empty))
     block_name f names (inr h) some =
         let named = subst HasNames h.all names in
-        (subst (λ (l : List Written). IsName (name_or_empty (slice_get l 2))) (sym h.all) (named.1.1.0 h.is_name))
+        (rw h.all (named.1.1.0 h.is_name))
 
     same_column : (n : List ℕ) → IsName n → column_name n ≡ n
-    same_column [] named = absurd (omega (arith, named.0))
+    same_column [] named = absurd (omega arith)
     same_column (x ∷ n) named = refl
 
     column : (f : List Written) → HasNames f → (f ≡ []) ⊎ HasBlockName f → has_blocks context.blocks ≡ true
         → check_column context a (slice_get f 2) ≡ Ok tt
         → place_of (column_name (name_or_empty (slice_get f 2))) context.factors ≡ None
     column f names (inl empty) with_blocks free =
-        let nothing = subst (λ (l : List Written). check_column context a (slice_get l 2) ≡ Ok tt) empty free in
+        let nothing = rw empty at free in
         let tested =
-        subst (λ b. (if b then check_free context.factors (codes "BLOCK") a else Ok tt) ≡ Ok tt) with_blocks nothing
+        rw with_blocks at nothing
         in
-        subst (λ (l : List Written). place_of (column_name (name_or_empty (slice_get l 2))) context.factors ≡ None)
+        subst (λ l. place_of (column_name (name_or_empty (slice_get l 2))) context.factors ≡ None)
         (sym empty) (is_free context.factors (codes "BLOCK") a tested)
     column f names (inr h) with_blocks free =
         let named = subst HasNames h.all names in
-        let tested = subst (λ (l : List Written). check_column context a (slice_get l 2) ≡ Ok tt) h.all free in
-        subst (λ (l : List Written). place_of (column_name (name_or_empty (slice_get l 2))) context.factors ≡ None)
-        (sym h.all)
-        (subst (λ n. place_of n context.factors ≡ None) (sym (same_column h.name.text (named.1.1.0 h.is_name)))
+        let tested = rw h.all at free in
+        rw h.all (rw (← (same_column h.name.text (named.1.1.0 h.is_name))) at
         (is_free context.factors h.name.text h.name tested))
 
     no_column : (f : List Written) → has_blocks context.blocks ≡ false
         → check_blockname context.blocks (slice_get f 0) ≡ Ok tt → name_or_empty (slice_get f 2) ≡ []
     no_column [] without named = refl
     no_column (w ∷ f) without named =
-        absurd (let refused = subst (λ b. (if b then Ok tt else Err (refusal_at 31 w)) ≡ Ok tt) without named in
+        absurd (let refused = rw without at named in
         cc refused)
 
 pub all_have_names : (context : Context) (earlier : List EarlierPlan) (statements : List (List Written))
@@ -187,7 +182,7 @@ all_have_names context earlier statements outputs each e =
     (holds_of_all context IsAccepted (λ before done. All (HasItsNames context) done)
     (λ before done a b c d options output accepted begun taken h. All-push (HasItsNames context) done output h
     (its_names context before a b c d options output accepted begun taken))
-    statements earlier [] outputs each (All-nil (HasItsNames context)) e).1
+    statements earlier [] outputs each (All-nil _) e).1
 
 -- a name that is new differs from each of the others
 separate : (earlier : List (List ℕ)) (name : List ℕ) → IsDistinct is_same_name earlier
@@ -206,22 +201,20 @@ pub all_differ : (context : Context) (earlier : List EarlierPlan) (statements : 
     → IsDistinct is_same_name (plan_names earlier ++ names_of outputs)
 all_differ context earlier statements outputs h e =
     let last =
-    holds_of_all context (λ s. Unit {0}) (AreNamed earlier)
+    holds_of_all context _ (AreNamed earlier)
     (λ before done a b c d options output accepted begun e kept.
     let t = taken context before a d (options_of (d ∷ options)) output e in
-    let new = unless (is_some (place_of d.text (plan_names before))) (refusal_at 18 d) t.fresh in
-    let all : plan_names (before ++ plan_behind context before output ∷ []) ≡ plan_names before ++ output.name ∷ [] =
-    map-append (λ (p : EarlierPlan). p.name) before (plan_behind context before output ∷ []) in
+    let all =
+    map-append (λ p. p.name) before (plan_behind context before output ∷ []) in
     record {
       differ =
           subst (IsDistinct is_same_name) (sym all)
-          (subst (λ n. IsDistinct is_same_name (plan_names before ++ n ∷ [])) (sym t.name_is)
-          (separate (plan_names before) d.text kept.differ new));
-      are = all
-          ∙ ap (λ (l : List (List ℕ)). l ++ output.name ∷ []) kept.are
-          ∙ append_assoc (plan_names earlier) (names_of done) (output.name ∷ [])
-          ∙ ap (λ (l : List (List ℕ)). plan_names earlier ++ l)
-          (sym (map-append (λ (o : OutputSpec). o.name) done (output ∷ [])));
+          (rw (← t.name_is) at (separate _ d.text kept.differ (unless _ _ t.fresh)));
+      are = cc (
+        append_assoc (plan_names earlier) (names_of done) (output.name ∷ []),
+        map-append (λ o. o.name) done
+            (output ∷ []),
+      );
     })
     statements earlier [] outputs (each-all (λ x. Unit {0}) statements (λ x. tt))
     (record { differ = h; are = sym (append-nil (plan_names earlier)) }) e in
@@ -232,7 +225,10 @@ pub built_names : (context : Context) (earlier : List EarlierPlan) (outputs : Li
     → plan_names (built (plan_behind context) earlier outputs) ≡ plan_names earlier ++ names_of outputs
 built_names context earlier [] = sym (append-nil (plan_names earlier))
 built_names context earlier (output ∷ outputs) =
-    built_names context (earlier ++ plan_behind context earlier output ∷ []) outputs
-    ∙ ap (λ (l : List (List ℕ)). l ++ names_of outputs)
-    (map-append (λ (p : EarlierPlan). p.name) earlier (plan_behind context earlier output ∷ []))
-    ∙ append_assoc (plan_names earlier) (output.name ∷ []) (names_of outputs)
+    cc (
+      built_names context (earlier ++ plan_behind context earlier output ∷ []) outputs,
+      map-append (λ p. p.name)
+          earlier (plan_behind context earlier output ∷ []),
+      append_assoc (plan_names earlier) (output.name ∷ [])
+          (names_of outputs),
+    )

@@ -1,27 +1,27 @@
 -- The options of an OUTPUT statement are those of the grammar.
-use Rattle.std.proofs.Common.{◌≡◌, ℕ, suc, Bool, true, false, List, [], ◌∷◌, ◌++◌, length, refl, sym, ap, subst, ◌∙◌}
+use Rattle.std.proofs.Common.{◌≡◌, suc, Bool, true, false, List, [], ◌∷◌, ◌++◌, length, refl, sym, ap, ◌∙◌}
 use Rattle.std.proofs.Common.{inl, inr}
-use Rattle.std.proofs.Common.{append_assoc, get_or}
-use Rattle.std.specs.Prelude.{not, ◌&&◌, ◌||◌, if◌then◌else◌, take}
-use Rattle.std.specs.List.{AllByRecursion, flat_map, list_all}
+use Rattle.std.proofs.Common.{append_assoc}
+use Rattle.std.specs.Prelude.{◌&&◌, ◌||◌}
+use Rattle.std.specs.List.{AllByRecursion, flat_map}
 use Rattle.std.proofs.lemmas.Bool.{and_parts, cases_Bool}
 use Rattle.std.proofs.lemmas.List.{append-nil, take_at}
 use Rattle.fx_language.specs.declared.symbol.Symbol.{Symbol}
 use Rattle.fx_language.specs.declared.symbol.Symbol.TheVariants as symbol
 use Rattle.fx_language.specs.Symbols.{is, is_word, is_output_option}
-use Rattle.fx_language.specs.Shapes.{Shape, Never, Empty, One, Before, Either, Many, Matches}
+use Rattle.fx_language.specs.Shapes.{Shape, Empty, One, Before, Either, Many, Matches}
 use Rattle.fx_language.specs.Grammar as grammar
 use Rattle.fx_language.proofs.SameSymbol.{symbol_is}
-use Rattle.fx_text.specs.Written.{Written, begins}
+use Rattle.fx_text.specs.Written.{Written}
 use Rattle.fx_text.specs.Sentences.{IsStatement, symbols_in}
-use Rattle.fx_outputs.specs.Options.{are_open_behind, begins_option, is_first, option_len, options_behind, options_of}
+use Rattle.fx_outputs.specs.Options.{are_open_behind, begins_option, is_first, option_len, options_behind}
 use Rattle.fx_outputs.specs.Readings.{AreOptionsRead}
 use Rattle.fx_text.proofs.ByLexemes.{Reads, by_lexemes, matches, before_end, semicolon}
 
 -- a symbol that passes the test is not this one
 pub apart : (t : Symbol) (test : Symbol → Bool) (s : Symbol) → test t ≡ false → test s ≡ true → is t s ≡ false
 apart t test s fails passes = elim (cases_Bool (is t s)) [
-  | inl it ↦ absurd (let f : false ≡ true = sym fails ∙ ap test (sym (symbol_is t s it)) ∙ passes in cc)
+  | inl it ↦ absurd (let f = sym fails ∙ ap test (sym (symbol_is t s it)) ∙ passes in cc)
   | inr differs ↦ differs
 ]
 
@@ -58,7 +58,7 @@ passed within before w rest h = rw h (none _)
 behind_sign : (within : Bool) (before w : Written) (rest : List Written) → before.symbol ≡ symbol.Equals
     → begins_option within before (w ∷ rest) ≡ false
 behind_sign true before w rest sign = refl
-behind_sign false before w rest sign = rw sign refl
+behind_sign false before w rest sign = rw sign
 
 abbrev Starts : List Written → Type 0
 Starts [] = Unit {0}
@@ -67,8 +67,8 @@ Starts (w ∷ rest) = is_first w rest ≡ true
 len : (inside : Bool) (before : Written) (more rest : List Written) → Quiet inside before more rest → Starts rest
     → option_len inside (before ∷ more ++ rest) ≡ suc (length more)
 len inside before [] [] q s = refl
-len inside before [] (x ∷ rest) q s = rw (q.0, q.1, s) refl
-len inside before (w ∷ more) rest q s = rw q.0 (ap suc (len (are_open_behind inside before) w more rest q.1 s))
+len inside before [] (x ∷ rest) q s = rw (q.0, q.1, s)
+len inside before (w ∷ more) rest q s = rw q.0 (cc (len (are_open_behind inside before) w more rest q.1 s))
 
 -- where the search has come to
 record Reached (done : List (List Written)) (inside : Bool) (s rest : List Written) : Type 0 where
@@ -83,8 +83,7 @@ further : (done : List (List Written)) (inside : Bool) (before : Written) (rest 
     → options_behind done inside (before ∷ rest) ≡ options_behind done (are_open_behind inside before) rest
 further done inside before rest h =
     let within = are_open_behind inside before in
-    ap (λ (b : Bool). options_behind (if b then done ++ take (option_len within rest) rest ∷ [] else done) within rest)
-    h
+    cc
 
 pass : (done : List (List Written)) (inside : Bool) (before : Written) (more rest : List Written)
     → Quiet inside before more rest → Reached done inside (before ∷ more ++ rest) rest
@@ -96,7 +95,7 @@ pass done inside before (w ∷ more) rest q =
       last = later.last;
       closed = later.closed;
       plain = later.plain;
-      same = further done inside before (w ∷ more ++ rest) q.0 ∙ later.same;
+      same = cc (further done inside before _ q.0);
     }
 
 -- an option, which begins by its first lexeme alone
@@ -114,7 +113,7 @@ all_quiet inside before [] rest closed plain each = (closed, plain)
 all_quiet inside before (w ∷ more) rest closed plain each = (
   passed (are_open_behind inside before) before w (more ++ rest)
       (rw (each.0.bracket, each.0.option, each.0.word) refl),
-  all_quiet (are_open_behind inside before) w more rest (rw (closed, each.0.bracket) refl) each.0.sign each.1,
+  all_quiet (are_open_behind inside before) w more rest (rw (closed, each.0.bracket)) each.0.sign each.1,
 )
 
 both : (x y : List Written) → AllByRecursion IsQuiet x → AllByRecursion IsQuiet y → AllByRecursion IsQuiet (x ++ y)
@@ -124,7 +123,7 @@ both (w ∷ x) y h k = (h.0, both x y h.1 k)
 flat : (a : Shape) → ((x : List Written) → Reads a x → AllByRecursion IsQuiet x) → (parts : List (List Written))
     → AllByRecursion (Reads a) parts → AllByRecursion IsQuiet (flat_map (λ part. part) parts)
 flat a f [] h = tt
-flat a f (part ∷ parts) h = both part (flat_map (λ part. part) parts) (f part h.0) (flat a f parts h.1)
+flat a f (part ∷ parts) h = both part _ (f part h.0) (flat a f parts h.1)
 
 one_key : (a : Symbol) (x : List Written) → is symbol.OpenBracket a ≡ false → is_output_option a ≡ false
     → is_word a ≡ false → is symbol.Equals a ≡ false → Reads (One (is a)) x → AllByRecursion IsQuiet x
@@ -175,8 +174,8 @@ values_of k a f b o n x
 ended : (a : Shape) → ((x : List Written) → Reads a x → AllByRecursion IsQuiet x) → (x y : List Written)
     → AllByRecursion IsQuiet x → Reads (Before (Many a) (One (is symbol.Close))) y → AllByRecursion IsQuiet (x ++ y)
 ended a f x y h (u, v, (parts, each, fl), c, i) =
-    rw (i, fl) (both x (flat_map (λ part. part) parts ++ v) h
-    (both (flat_map (λ part. part) parts) v (flat a f parts each) (one_key symbol.Close v refl refl refl refl c)))
+    rw (i, fl) (both x _ h
+    (both _ v (flat a f parts each) (one_key symbol.Close v refl refl refl refl c)))
 
 values_read : (x : List Written) → Reads grammar.values x → HasValues x
 values_read x (inl h) =
@@ -189,7 +188,7 @@ values_read x (inl h) =
         → Reads (Before (Either (One (is symbol.Minus)) Empty) (Before (Either grammar.n (One (is symbol.Decimal)))
         (Before (Many grammar.value) (One (is symbol.Close))))) x → AllByRecursion IsQuiet x
     numbers x (u, y, m, (v, z, k, more, j), i) =
-        rw (i, j, sym (append_assoc u v z)) (ended grammar.value value_quiet (u ++ v) z
+        rw (i, j, sym (append_assoc u v z)) (ended grammar.value value_quiet _ z
         (value_quiet (u ++ v) (u, v, m, k, refl)) more)
 values_read x (inr h) =
     values_of symbol.Cvals
@@ -208,14 +207,14 @@ values_read x (inr h) =
 values_go_on : (inside : Bool) (before : Written) (x rest : List Written) → are_open_behind inside before ≡ false
     → HasValues x → Quiet inside before x rest
 values_go_on inside before x rest closed h =
-    let q = h.each in
     rw h.all (
-      passed (are_open_behind inside before) before h.word (h.sign ∷ h.first ∷ h.more ++ rest) h.word_is,
+      passed _ before h.word (h.sign ∷ h.first ∷ h.more ++ rest) h.word_is,
       (
-        passed _ h.word h.sign (h.first ∷ h.more ++ rest) (rw h.sign_is refl),
+        passed _ h.word h.sign (h.first ∷ h.more ++ rest) (rw h.sign_is),
         (
-          passed _ h.sign h.first (h.more ++ rest) (rw (q.0.bracket, q.0.option, q.0.word) refl),
-          all_quiet _ h.first h.more rest (rw (closed, h.no_bracket, h.sign_is, q.0.bracket) refl) q.0.sign q.1,
+          passed _ h.sign h.first (h.more ++ rest) (rw (h.each.0.bracket, h.each.0.option, h.each.0.word)),
+          all_quiet _ h.first h.more rest (rw (closed, h.no_bracket, h.sign_is, h.each.0.bracket)) h.each.0.sign
+              h.each.1,
         ),
       ),
     )
@@ -238,11 +237,11 @@ module _ (rest : List Written) where
         all = rw (ew, i2, ee, ev) at i1;
         begins_it = starts w (e ∷ v ∷ rest) same;
         goes_on = (
-          passed _ w e (v ∷ rest) (rw sign refl),
+          passed _ w e (v ∷ rest) (rw sign),
           (
-            behind_sign (are_open_behind (are_open_behind false w) e) e v rest sign,
+            behind_sign _ e v rest sign,
             (
-              rw (sign, same, b, apart symbol.OpenBracket (λ s. is symbol.Whole s || is_word s) v.symbol refl hv) refl,
+              rw (sign, same, b, apart symbol.OpenBracket (λ s. is symbol.Whole s || is_word s) v.symbol refl hv),
               apart symbol.Equals (λ s. is symbol.Whole s || is_word s) v.symbol refl hv,
             ),
           ),
@@ -252,10 +251,10 @@ module _ (rest : List Written) where
   column : (w e n : Written) (x : List Written) → are_open_behind false w ≡ false → e.symbol ≡ symbol.Equals
       → is_word n.symbol ≡ true → Reads (Either grammar.values Empty) x → Quiet false w (e ∷ n ∷ x) rest
   column w e n x closed sign word v = (
-    passed _ w e (n ∷ x ++ rest) (rw sign refl),
+    passed _ w e (n ∷ x ++ rest) (rw sign),
     (
-      behind_sign (are_open_behind (are_open_behind false w) e) e n (x ++ rest) sign,
-      maybe_values _ n x rest (rw (closed, sign, apart symbol.OpenBracket is_word n.symbol refl word) refl)
+      behind_sign _ e n (x ++ rest) sign,
+      maybe_values _ n x rest (rw (closed, sign, apart symbol.OpenBracket is_word n.symbol refl word))
           (apart symbol.Equals is_word n.symbol refl word) v,
     ),
   )
@@ -266,17 +265,16 @@ module _ (rest : List Written) where
       → c.symbol ≡ symbol.CloseBracket → Quiet false c more rest
       → Quiet inside before (flat_map (λ part. part) names ++ c ∷ more) rest
   in_brackets inside before [] c more opened each ends later =
-      (rw opened refl, rw opened (closing more later))
+      (rw opened, rw opened (closing more later))
     where
       closing : (more : List Written) → Quiet false c more rest → Quiet true c more rest
-      closing [] q = (rw ends refl, q.1)
+      closing [] q = (rw ends, q.1)
       closing (m ∷ more) q = rw ends (rw ends at q)
   in_brackets inside before (part ∷ names) c more opened ((n, word, e), each) ends later =
       let tail = in_brackets true n names c more
-      (rw (apart symbol.OpenBracket is_word n.symbol refl word, apart symbol.CloseBracket is_word n.symbol refl word)
-      refl)
+      (rw (apart symbol.OpenBracket is_word n.symbol refl word, apart symbol.CloseBracket is_word n.symbol refl word))
       each ends later in
-      rw e (rw opened refl, rw opened tail)
+      rw e (rw opened, rw opened tail)
 
   bracketed : (p : List Written) → Reads grammar.derived p → IsPart p rest
   bracketed p (
@@ -300,41 +298,41 @@ module _ (rest : List Written) where
   ) =
       let opens = symbol_is symbol.OpenBracket o.symbol ho in
       let ends = symbol_is symbol.CloseBracket c.symbol hc in
-      let inner : List Written = flat_map (λ part. part) names in
+      let inner = flat_map (λ part. part) names in
       let text : y1 ≡ (x2 ++ inner) ++ c ∷ e ∷ w ∷ y6 =
       (rw (i3, fl, i4, ec, i5, ee, i6, ew) at i2) ∙ sym (append_assoc x2 inner (c ∷ e ∷ w ∷ y6)) in
       record {
         first = o;
         more = (x2 ++ inner) ++ c ∷ e ∷ w ∷ y6;
         all = rw (eo, text) at i1;
-        begins_it = rw opens refl;
-        goes_on = in_brackets false o (x2 ∷ names) c (e ∷ w ∷ y6) (rw opens refl) (n, each) ends
-            (column c e w y6 (rw ends refl) (symbol_is symbol.Equals e.symbol he) hw v);
+        begins_it = rw opens;
+        goes_on = in_brackets false o (x2 ∷ names) c (e ∷ w ∷ y6) (rw opens) (n, each) ends
+            (column c e w y6 (rw ends) (symbol_is symbol.Equals e.symbol he) hw v);
       }
 
   one_option : (p : List Written) → Reads grammar.option p → IsPart p rest
-  one_option p (inl h) = replicated symbol.Pointrep (λ w l e. rw e refl) refl p h
-  one_option p (inr (inl h)) = replicated symbol.Designrep (λ w l e. rw e refl) refl p h
+  one_option p (inl h) = replicated symbol.Pointrep (λ w l e. rw e) refl p h
+  one_option p (inr (inl h)) = replicated symbol.Designrep (λ w l e. rw e) refl p h
   one_option p (inr (inr (inl (x, y, (w, hw, ew), h, i)))) =
       let same = symbol_is symbol.Randomize w.symbol hw in
       record {
         first = w;
         more = y;
         all = rw ew at i;
-        begins_it = rw same refl;
-        goes_on = all_quiet false w y rest (rw same refl) (rw same refl) (seed y h);
+        begins_it = rw same;
+        goes_on = all_quiet false w y rest (rw same) (rw same) (seed y h);
       }
     where
       seed : (y : List Written)
           → Reads (Either (Before (One (is symbol.Open)) (Before grammar.n (One (is symbol.Close)))) Empty) y
           → AllByRecursion IsQuiet y
       seed y (inl (a, b, h, (c, d, k, l, j), i)) =
-          rw (i, j) (both a (c ++ d) (one_key symbol.Open a refl refl refl refl h)
+          rw (i, j) (both a _ (one_key symbol.Open a refl refl refl refl h)
           (both c d (one_key symbol.Whole c refl refl refl refl k) (one_key symbol.Close d refl refl refl refl l)))
       seed y (inr e) = rw e tt
   one_option p (inr (inr (inr (inl (w, hw, ew))))) =
       let same = symbol_is symbol.Novalran w.symbol hw in
-      record { first = w; more = []; all = ew; begins_it = rw same refl; goes_on = (rw same refl, rw same refl) }
+      record { first = w; more = []; all = ew; begins_it = rw same; goes_on = (rw same, rw same) }
   one_option p
       (inr (inr (inr (inr (inl (x1, y1, (b, hb, eb), (x2, y2, (e, he, ee), (x3, y3, (w, hw, ew), v, i3), i2), i1)))))) =
       let same = symbol_is symbol.Blockname b.symbol hb in
@@ -342,18 +340,18 @@ module _ (rest : List Written) where
         first = b;
         more = e ∷ w ∷ y3;
         all = rw (eb, i2, ee, i3, ew) at i1;
-        begins_it = rw same refl;
-        goes_on = column b e w y3 (rw same refl) (symbol_is symbol.Equals e.symbol he) hw v;
+        begins_it = rw same;
+        goes_on = column b e w y3 (rw same) (symbol_is symbol.Equals e.symbol he) hw v;
       }
   one_option p (inr (inr (inr (inr (inr (inl (x, y, (w, hw, ew), v, i))))))) =
       let h = values_read y v in
-      let word = and_parts (is_word w.symbol) (not (is_output_option w.symbol)) hw in
+      let word = and_parts _ _ hw in
       record {
         first = w;
         more = y;
         all = rw ew at i;
         begins_it = rw (h.all, word.0, h.no_sign) (always (is symbol.OpenBracket w.symbol) (is_output_option w.symbol));
-        goes_on = values_go_on false w y rest (rw (apart symbol.OpenBracket is_word w.symbol refl word.0) refl) h;
+        goes_on = values_go_on false w y rest (rw (apart symbol.OpenBracket is_word w.symbol refl word.0)) h;
       }
     where
       always : (a b : Bool) → (a || b || true) ≡ true
@@ -377,13 +375,8 @@ next : (done : List (List Written)) (inside : Bool) (last w : Written) (more res
 next done inside last w more rest closed plain first goes_on later =
     let all : List Written = w ∷ more ++ rest in
     let within = are_open_behind inside last in
-    let here : begins_option within last all ≡ true = rw (closed, plain, first) refl in
-    ap (λ (b : Bool). options_behind (if b then done ++ take (option_len within all) all ∷ [] else done) within all)
-    here
-    ∙ ap (λ (b : Bool). options_behind (done ++ take (option_len b all) all ∷ []) b all) closed
-    ∙ ap (λ (n : ℕ). options_behind (done ++ take n all ∷ []) false all) (len false w more rest goes_on later)
-    ∙ ap (λ (l : List Written). options_behind (done ++ l ∷ []) false all)
-    (take_at (w ∷ more) rest (suc (length more)) refl)
+    let here : begins_option within last all ≡ true = rw (closed, plain, first) in
+    cc (len false w more rest goes_on later, take_at (w ∷ more) rest (suc (length more)) refl)
 
 -- where the search has come to behind an option
 record Behind (done : List (List Written)) (inside : Bool) (before : Written) (p rest : List Written) : Type 0 where
@@ -398,18 +391,23 @@ behind : (done : List (List Written)) (inside : Bool) (before : Written) (p rest
     → Behind done inside before p rest
 behind done inside before p rest closed plain part later =
     let end = pass (done ++ (part.first ∷ part.more) ∷ []) false part.first part.more rest part.goes_on in
-    let one = next done inside before part.first part.more rest closed plain part.begins_it part.goes_on later in
-    subst (λ (l : List Written). Behind done inside before l rest) (sym part.all)
-    (record { within = end.within; last = end.last; closed = end.closed; plain = end.plain; same = one ∙ end.same })
+    rw part.all
+    (record {
+      within = end.within;
+      last = end.last;
+      closed = end.closed;
+      plain = end.plain;
+      same = cc (next done inside before part.first part.more rest closed plain part.begins_it part.goes_on later);
+    })
 
 cut : (parts : List (List Written)) → AllByRecursion (Reads grammar.option) parts → (done : List (List Written))
     (inside : Bool) (last : Written) → are_open_behind inside last ≡ false → is symbol.Equals last.symbol ≡ false
     → options_behind done inside (last ∷ flat_map (λ part. part) parts) ≡ done ++ parts
 cut [] each done inside last closed plain = sym (append-nil done)
 cut (p ∷ parts) each done inside last closed plain =
-    let rest : List Written = flat_map (λ part. part) parts in
+    let rest = flat_map (λ part. part) parts in
     let b = behind done inside last p rest closed plain (one_option rest p each.0) (starts parts each.1) in
-    b.same ∙ cut parts each.1 (done ++ p ∷ []) b.within b.last b.closed b.plain ∙ append_assoc done (p ∷ []) parts
+    cc (cut parts each.1 (done ++ p ∷ []) b.within b.last b.closed b.plain, append_assoc done (p ∷ []) parts)
 
 matching : (parts : List (List Written)) → AllByRecursion (Reads grammar.option) parts
     → AllByRecursion (λ part. Matches grammar.option (symbols_in part)) parts
@@ -434,11 +432,11 @@ options_law s by_grammar = read (by_lexemes grammar.output s by_grammar)
       i0,
     )
         =
-        let inner : List Written = flat_map (λ part. part) parts in
-        let text : s ++ semicolon ∷ [] ≡ (f ∷ o ∷ e ∷ n ∷ inner) ++ m ∷ [] =
+        let inner = flat_map (λ part. part) parts in
+        let text =
         rw (ef, i1, eo, i2, ee, i3, en, i4, fl, em) at i0 in
-        let found : options_of (n ∷ inner) ≡ parts =
-        cut parts each [] false n (rw (apart symbol.OpenBracket is_word n.symbol refl hn) refl)
+        let found =
+        cut parts each [] false n (rw (apart symbol.OpenBracket is_word n.symbol refl hn))
         (apart symbol.Equals is_word n.symbol refl hn) in
         record {
           word = f;
@@ -446,8 +444,8 @@ options_law s by_grammar = read (by_lexemes grammar.output s by_grammar)
           equals = e;
           name = n;
           options = inner;
-          statement = before_end s (f ∷ o ∷ e ∷ n ∷ inner) m text;
+          statement = before_end s _ m text;
           is_name = hn;
-          all = rw found refl;
+          all = rw found;
           each = rw found (matching parts each);
         }

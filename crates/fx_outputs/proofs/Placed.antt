@@ -24,7 +24,7 @@ use Rattle.fx_outputs.specs.Earlier.{file_columns, plan_names, rep_columns, rep_
 use Rattle.fx_outputs.specs.Replications.{check_number, check_rows, plan_at, rep_at, replication_in_range, reps_of}
 use Rattle.fx_outputs.specs.Shuffles.{seed_in_range, seeded, seed_written, shuffle_of}
 use Rattle.fx_outputs.specs.Values.{checked_values, values_if_any, values_of}
-use Rattle.fx_outputs.specs.BlockColumns.{has_blocks, values_wanted, check_blockname, check_free, check_column}
+use Rattle.fx_outputs.specs.BlockColumns.{has_blocks, check_blockname, check_free, check_column}
 use Rattle.fx_outputs.specs.BlockColumns.{block_values, name_or_empty}
 use Rattle.fx_outputs.specs.Columns.{check_name, check_names, check_size, column_of, columns_behind}
 use Rattle.fx_outputs.specs.Columns.{columns_of, derived_name, derived_names, derived_of, factor_at, is_used, named}
@@ -66,8 +66,8 @@ module _ (P : ℕ → ℕ → Type 0) where
 
   reps : (earlier : List EarlierPlan) (s : List (List Written)) → AreAllPlaced P s → Placed P (reps_of earlier s)
   reps earlier s h =
-      let point : Option Written = slice_get (option_of symbol.Pointrep s) 2 in
-      let design : Option Written = slice_get (option_of symbol.Designrep s) 2 in
+      let point = slice_get (option_of symbol.Pointrep s) 2 in
+      let design = slice_get (option_of symbol.Designrep s) 2 in
       let at_point = placed.at P 2 _ (from symbol.Pointrep s h) in
       let at_design = placed.at P 2 _ (from symbol.Designrep s h) in
       placed.chain P (check_number point) _ (number point at_point) (λ u.
@@ -83,13 +83,13 @@ module _ (P : ℕ → ℕ → Type 0) where
   shuffle : (s : List (List Written)) → AreAllPlaced P s → Placed P (shuffle_of s)
   shuffle s h =
       placed.both P (begins symbol.Randomize seed) _ _
-      (of_written (not (begins symbol.Novalran (option_of symbol.Novalran s))) (seed_written seed) in_seed) tt
+      (of_written (not (begins symbol.Novalran (option_of symbol.Novalran s))) _ in_seed) tt
     where
       seed : List Written
       seed = option_of symbol.Randomize s
 
       in_seed : IfSome (seed_written seed) (IsPlaced P)
-      in_seed = by_test (begins symbol.Open (drop 1 seed))
+      in_seed = by_test _
         where
           by_test : (b : Bool) → IfSome (if b then slice_get seed 2 else None) (IsPlaced P)
           by_test true = placed.at P 2 seed (from symbol.Randomize s h)
@@ -123,7 +123,7 @@ module _ (P : ℕ → ℕ → Type 0) where
 
   begun : (wanted : Option ℕ) (s : List Written) → ArePlaced P s → Placed P (values_if_any wanted s)
   begun wanted [] h = tt
-  begun wanted (w ∷ rest) h = as_many wanted w (values_of rest) h.0
+  begun wanted (w ∷ rest) h = as_many wanted w _ h.0
 
   factor : (name : Written) (place : Option ℕ) → IsPlaced P name → Placed P (factor_at name place)
   factor name None h = placed.written P 4 name refl h
@@ -160,7 +160,7 @@ module _ (P : ℕ → ℕ → Type 0) where
 
   behind : (s : List Written) → ArePlaced P s → ArePlaced P (after symbol.CloseBracket s)
   behind [] h = tt
-  behind (w ∷ rest) h = by_test (is symbol.CloseBracket w.symbol) (behind rest h.1)
+  behind (w ∷ rest) h = by_test _ (behind rest h.1)
     where
       by_test : (b : Bool) → ArePlaced P (after symbol.CloseBracket rest)
           → ArePlaced P (if b then rest else after symbol.CloseBracket rest)
@@ -170,14 +170,14 @@ module _ (P : ℕ → ℕ → Type 0) where
   derived : (context : Context) (done : Columns) (bracket : Written) (rest : List Written) → IsPlaced P bracket
       → ArePlaced P rest → Placed P (derived_of context done bracket rest)
   derived context done bracket rest at h =
-      let inside : List Written = preceding symbol.CloseBracket rest in
-      let others : List Written = after symbol.CloseBracket rest in
+      let inside = preceding symbol.CloseBracket rest in
+      let others = after symbol.CloseBracket rest in
       placed.chain P (check_size context.q (length inside) bracket) _
       (placed.both P (nat_le 2 (length inside) && nat_le (length inside) 4 && nat_le (context.q ^ length inside) 64) _ _
       tt (placed.written P 35 bracket refl at)) (λ u.
       placed.chain P (places_behind context done [] inside) _ (names context done [] inside (front _ rest h)) (λ places.
       placed.chain P (values_if_any (Some (context.q ^ length inside)) (drop 2 others)) _
-      (begun (Some (context.q ^ length inside)) (drop 2 others) (placed.dropped P 2 others (behind rest h)))
+      (begun (Some (context.q ^ length inside)) _ (placed.dropped P 2 others (behind rest h)))
       (λ given. tt)))
 
   recoded : (context : Context) (done : Columns) (name : Written) (rest : List Written) → IsPlaced P name
@@ -200,7 +200,7 @@ module _ (P : ℕ → ℕ → Type 0) where
       placed.chain P (column_of context done o) _ (option context done o h.0) (λ now. columns context now all h.1)
 
   its_name : (o : List Written) → ArePlaced P o → IfSome (derived_name o) (IsPlaced P)
-  its_name o h = by_test (begins symbol.OpenBracket o)
+  its_name o h = by_test _
     where
       by_test : (b : Bool) → IfSome (if b then slice_get (after symbol.CloseBracket o) 1 else None) (IsPlaced P)
       by_test true = placed.at P 1 (after symbol.CloseBracket o) (behind o h)
@@ -219,7 +219,7 @@ module _ (P : ℕ → ℕ → Type 0) where
   differing names [] h = tt
   differing names (o ∷ all) h =
       placed.chain P (named names (derived_name o) (derived_names all)) _
-      (naming names (derived_name o) (derived_names all) (its_name o h.0)) (λ more. differing more all h.1)
+      (naming names _ (derived_names all) (its_name o h.0)) (λ more. differing more all h.1)
 
   plan : (w : Option Written) (columns own others : List (List ℕ)) → IfSome w (IsPlaced P)
       → Placed P (check_plan w columns own others)
@@ -231,9 +231,9 @@ module _ (P : ℕ → ℕ → Type 0) where
       (derived : List Derived) (s : List (List Written)) → AreAllPlaced P s
       → Placed P (check_columns context earlier reps block_name derived s)
   all_columns context earlier reps block_name derived s h =
-      let point : List (List ℕ) = rep_columns (file_columns earlier) reps.0 in
-      let design : List (List ℕ) = rep_columns (file_columns earlier) reps.1 in
-      let own : List (List ℕ) = own_columns context block_name derived in
+      let point = rep_columns (file_columns earlier) reps.0 in
+      let design = rep_columns (file_columns earlier) reps.1 in
+      let own = own_columns context block_name derived in
       placed.chain P (check_names (other_columns context block_name derived ++ point ++ design) s) _
       (differing (other_columns context block_name derived ++ point ++ design) s h) (λ u.
       placed.chain P (check_plan (slice_get (option_of symbol.Pointrep s) 2) point own design) _
@@ -278,7 +278,7 @@ module _ (P : ℕ → ℕ → Type 0) where
   all context earlier outputs ((a ∷ b ∷ c ∷ d ∷ opts) ∷ rest) h =
       placed.both P (is symbol.Output a.symbol) _ _
       (placed.chain P (output_spec context earlier a d (options_of (d ∷ opts))) _
-      (output context earlier a d (options_of (d ∷ opts)) h.0.0 h.0.1.1.1.0
+      (output context earlier a d _ h.0.0 h.0.1.1.1.0
       (parts.options (IsPlaced P) [] false (d ∷ opts) tt h.0.1.1.1))
       (λ o. all context (earlier ++ plan_behind context earlier o ∷ []) (outputs ++ o ∷ []) rest h.1))
       (all context earlier outputs rest h.1)

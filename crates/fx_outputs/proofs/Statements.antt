@@ -22,21 +22,21 @@ is_output s = begins Output s && nat_lt 3 (length s)
 
 -- a statement that is long enough, and none of these, begins with another word
 other_word : (begun : Bool) (n : ℕ) → (begun && nat_lt 3 (suc (suc (suc (suc n))))) ≡ false → begun ≡ false
-other_word true n e = absurd (let long = lt-ltb 3 (suc (suc (suc (suc n)))) (omega arith) in cc)
+other_word true n e = absurd (cc (lt-ltb 3 (suc (suc (suc (suc n)))) (omega arith)))
 other_word false n e = refl
 
 module _ (context : Context) (earlier : List EarlierPlan) (outputs : List OutputSpec) (rest : List (List Written)) where
   first_refused : (a b c d : Written) (options : List Written) (reason : ParseStop) → is Output a.symbol ≡ true
       → IsRefused (output_spec context earlier a d (options_of (d ∷ options))) reason
       → IsRefused (outputs_behind context earlier outputs ((a ∷ b ∷ c ∷ d ∷ options) ∷ rest)) reason
-  first_refused a b c d options (stop.Refused refusal) begun h = rw (begun, h) refl
+  first_refused a b c d options (stop.Refused refusal) begun h = rw (begun, h)
   first_refused a b c d options stop.NoMemory begun h = tt
 
   first_read : (a b c d : Written) (options : List Written) (output : OutputSpec) → is Output a.symbol ≡ true
       → output_spec context earlier a d (options_of (d ∷ options)) ≡ Ok output
       → outputs_behind context earlier outputs ((a ∷ b ∷ c ∷ d ∷ options) ∷ rest)
       ≡ outputs_behind context (earlier ++ plan_behind context earlier output ∷ []) (outputs ++ output ∷ []) rest
-  first_read a b c d options output begun h = rw (begun, h) refl
+  first_read a b c d options output begun h = rw (begun, h)
 
   refused_long : (s : List Written) (word name : Written) (reason : ParseStop) → begins Output s ≡ true → 3 < length s
       → word ≡ slice_index_or s 0 word → name ≡ slice_index_or s 3 name
@@ -70,8 +70,8 @@ module _ (context : Context) (earlier : List EarlierPlan) (outputs : List Output
       → IsRefused (output_spec context earlier word name (options_of (drop 3 s))) reason
       → IsRefused (outputs_behind context earlier outputs (s ∷ rest)) reason
   refused s word name reason t w n h =
-      let both = and_parts (begins Output s) (nat_lt 3 (length s)) (sym t) in
-      refused_long s word name reason both.0 (ltb-true 3 (length s) both.1) w n h
+      let both = and_parts _ _ (sym t) in
+      refused_long s word name reason both.0 (ltb-true 3 _ both.1) w n h
 
   pub read : (s : List Written) (word name : Written) (output : OutputSpec) → true ≡ is_output s
       → word ≡ slice_index_or s 0 word → name ≡ slice_index_or s 3 name
@@ -79,13 +79,13 @@ module _ (context : Context) (earlier : List EarlierPlan) (outputs : List Output
       → outputs_behind context earlier outputs (s ∷ rest)
       ≡ outputs_behind context (earlier ++ plan_behind context earlier output ∷ []) (outputs ++ output ∷ []) rest
   read s word name output t w n h =
-      let both = and_parts (begins Output s) (nat_lt 3 (length s)) (sym t) in
-      read_long s word name output both.0 (ltb-true 3 (length s) both.1) w n h
+      let both = and_parts _ _ (sym t) in
+      read_long s word name output both.0 (ltb-true 3 _ both.1) w n h
 
   first_passed : (a b c d : Written) (options : List Written) → is Output a.symbol ≡ false
       → outputs_behind context earlier outputs ((a ∷ b ∷ c ∷ d ∷ options) ∷ rest)
       ≡ outputs_behind context earlier outputs rest
-  first_passed a b c d options begun = rw begun refl
+  first_passed a b c d options begun = rw begun
 
   pub passed : (s : List Written) → false ≡ is_output s
       → outputs_behind context earlier outputs (s ∷ rest) ≡ outputs_behind context earlier outputs rest
@@ -94,7 +94,7 @@ module _ (context : Context) (earlier : List EarlierPlan) (outputs : List Output
   passed (a ∷ b ∷ []) t = refl
   passed (a ∷ b ∷ c ∷ []) t = refl
   passed (a ∷ b ∷ c ∷ d ∷ options) t =
-      first_passed a b c d options (other_word (is Output a.symbol) (length options) (sym t))
+      first_passed a b c d options (other_word _ _ (sym t))
 
 -- the plan of one more output stands last
 pub one_more_plan : (context : Context) (before earlier : List EarlierPlan) (outputs : List OutputSpec)

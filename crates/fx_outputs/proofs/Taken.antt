@@ -1,13 +1,12 @@
 -- What is known of an OUTPUT statement that is accepted.
 use Rattle.std.proofs.Common.{◌≡◌, ℕ, ◌*◌, ◌≤◌, Bool, true, false, List, drop, Option, Some, None, Result, Ok, Err}
 use Rattle.std.proofs.Common.{refl}
-use Rattle.std.proofs.Common.{subst, sym}
-use Rattle.std.specs.Prelude.{is_some, nat_le, slice_get, if◌then◌else◌}
+use Rattle.std.proofs.Common.{subst}
+use Rattle.std.specs.Prelude.{is_some, slice_get, if◌then◌else◌}
 use Rattle.std.proofs.lemmas.Bool.{leb-true}
 use Rattle.fx_language.specs.declared.symbol.Symbol.TheVariants.{Pointrep, Designrep, Blockname}
 use Rattle.fx_text.specs.declared.refusal.Refusal.{Refusal}
 use Rattle.fx_text.specs.Names.{place_of}
-use Rattle.fx_text.specs.Refusals.{refusal_at}
 use Rattle.fx_text.specs.Written.{Written}
 use Rattle.fx_outputs.specs.declared.columns.Columns.{Columns}
 use Rattle.fx_outputs.specs.declared.earlier.EarlierPlan.{EarlierPlan}
@@ -108,12 +107,12 @@ taken context earlier word name s output e =
 
 pub not_found : (o : Option ℕ) → is_some o ≡ false → o ≡ None
 not_found None e = refl
-not_found (Some i) e = absurd (let f : true ≡ false = e in cc)
+not_found (Some i) e = absurd (let f = e in cc)
 
 pub unless : (b : Bool) (refusal : Refusal)
     → ◌≡◌ {A = Result (Unit {0}) Refusal} (if b then Err refusal else Ok tt) (Ok tt)
     → b ≡ false
-unless true refusal e = absurd (cc e)
+unless true refusal e = cc e
 unless false refusal e = refl
 
 module _ (context : Context) (earlier : List EarlierPlan) (word name : Written) (s : List (List Written))
@@ -121,12 +120,10 @@ module _ (context : Context) (earlier : List EarlierPlan) (word name : Written) 
   pub new_name : place_of output.name (plan_names earlier) ≡ None
   new_name =
       let t = taken context earlier word name s output e in
-      subst (λ (n : List ℕ). place_of n (plan_names earlier) ≡ None) (sym t.name_is)
-      (not_found (place_of name.text (plan_names earlier))
-      (unless (is_some (place_of name.text (plan_names earlier))) (refusal_at 18 name) t.fresh))
+      rw t.name_is (not_found _
+      (unless _ _ t.fresh))
 
   pub few_rows : context.runs * rep_rows earlier output.pointrep * rep_rows earlier output.designrep ≤ 200000
   few_rows =
-      let t = taken context earlier word name s output e in
-      let rows : ℕ = context.runs * rep_rows earlier output.pointrep * rep_rows earlier output.designrep in
-      leb-true rows 200000 (kept_if (nat_le rows 200000) tt tt (refusal_at 21 name) t.rows).0
+      let rows = context.runs * rep_rows earlier output.pointrep * rep_rows earlier output.designrep in
+      leb-true rows 200000 (kept_if _ tt tt _ (taken context earlier word name s output e).rows).0

@@ -1,6 +1,6 @@
 -- Plans of a design: how many rows they have, and what the shuffled values are.
 use Rattle.std.proofs.Common.{ℕ, ◌≡◌, ◌<◌, ◌+◌, ◌-◌, ◌*◌, ◌^◌, zero, suc, Bool, true, false, List, [], ◌∷◌, length}
-use Rattle.std.proofs.Common.{swap, refl, sym, subst, ◌∙◌, ap, arith, IsPermutation}
+use Rattle.std.proofs.Common.{swap, refl, sym, ◌∙◌, ap, arith, IsPermutation}
 use Rattle.std.specs.List.{AllZip, range_with_len}
 use Rattle.std.proofs.lemmas.List.{length-map}
 use Rattle.std.proofs.lemmas.List.FromFn.{length-range_with_len}
@@ -40,24 +40,23 @@ design-runs matrix known whole =
     record {
       shaped = known.shaped;
       each =
-          All-map (λ x. IsVector q (matrix.shape.s + matrix.shape.t) x) (λ p. levels_at q rules p)
-          (points q matrix.shape.m)
-          (all-points q matrix.shape.m (omega (arith, f.more_than_one))
+          All-map (λ x. IsVector q (matrix.shape.s + matrix.shape.t) x) _
+          _
+          (all-points q matrix.shape.m (omega arith)
           (λ p. IsVector q (matrix.shape.s + matrix.shape.t) (levels_at q rules p))
-          (λ p h. subst (λ n. IsVector q n (levels_at q rules p)) whole
-          (rows-vector q f matrix.shape.m matrix.rows p)));
+          (λ p h. rw whole at (rows-vector q f matrix.shape.m matrix.rows p)));
     }
 
 module _ {X : Type 0} where
   exchanged-permutation : (k : ℕ) (g : Lcg) (xs : List X) → k < length xs → IsPermutation xs (exchanged g k xs).0
   exchanged-permutation zero g xs h = IsPermutation-refl xs
   exchanged-permutation (suc k) g xs h =
-      let j : ℕ = (drawn g (k + 2)).0 in
-      let low : j < k + 2 = drawn_low g (k + 2) (omega arith) in
-      let next : List X = swap xs (k + 1) j in
+      let j = (drawn g (k + 2)).0 in
+      let low = drawn_low g (k + 2) (omega arith) in
+      let next = swap xs (k + 1) j in
       IsPermutation-trans xs next _
-      (IsPermutation-swap xs next (k + 1) j (omega (arith, h)) (omega (arith, low, h)) refl)
-      (exchanged-permutation k (drawn g (k + 2)).1 next (omega (arith, h, length-swap xs (k + 1) j)))
+      (IsPermutation-swap xs next (k + 1) j (omega arith) (omega arith) refl)
+      (exchanged-permutation k (drawn g (k + 2)).1 next (omega (arith, length-swap xs (k + 1) j)))
 
   shuffled-permutation : (g : Lcg) (xs : List X) → IsPermutation xs (shuffled g xs).0
   shuffled-permutation g [] = IsPermutation-refl []
@@ -90,7 +89,7 @@ pub values-reordered : (runs : RunsView) (output : OutputSpec) (seed : ℕ) (inn
     (arrangement_of runs output seed inner outer).values
 values-reordered runs output seed inner outer =
     arranged-values output.shuffle seed (λ r. block_of runs (run_of (length inner.rows) (length runs.rows) r))
-    (runs.shape.q ^ runs.shape.t) _
+    _ _
 
 pub run-count : (matrix : MatrixView) → length (design_of matrix).rows ≡ matrix.shape.q ^ matrix.shape.m
 unfolding runs_of
@@ -104,11 +103,11 @@ pub row-count : (names : List (List ℕ)) (matrix : MatrixView) (output : Output
 row-count names matrix output seed inner outer known whole =
     let runs = design_of matrix in
     let order = (arrangement_of runs output seed inner outer).order in
-    let all : ℕ = length runs.rows * length inner.rows * length outer.rows in
+    let all = length runs.rows * length inner.rows * length outer.rows in
     length-map order _
     ∙ sym (sum_by-constant 1 order ∙ omega arith)
     ∙ plan_total (λ x. 1) runs output seed inner outer (design-runs matrix known whole)
-    ∙ sum_by-constant 1 (range_with_len 0 all) ∙ ap (λ (x : ℕ). x * 1) (length-range_with_len 0 all)
+    ∙ sum_by-constant 1 (range_with_len 0 all) ∙ ap (λ x. x * 1) (length-range_with_len 0 all)
     ∙ in_order (length runs.rows) (length inner.rows) (length outer.rows)
     ∙ ap (λ n. n * (length inner.rows * length outer.rows)) (run-count matrix)
   where

@@ -1,6 +1,6 @@
 -- What holds of the columns of a plan, and of their values.
-use Rattle.std.proofs.Common.{ℕ, ◌≡◌, ◌≢◌, ◌<◌, ◌≤◌, ◌^◌, ◌==◌, Bool, true, false, cond, not}
-use Rattle.std.proofs.Common.{List, [], ◌∷◌, ◌++◌, length, map, get_or, refl, sym, subst, ◌∙◌, ap, ap₂, arith}
+use Rattle.std.proofs.Common.{ℕ, ◌≡◌, ◌≢◌, ◌<◌, ◌≤◌, ◌^◌, Bool, true, false, cond, not}
+use Rattle.std.proofs.Common.{List, [], ◌∷◌, length, map, get_or, refl, sym, subst, ◌∙◌, ap, arith}
 use Rattle.std.proofs.Common.{All}
 use Rattle.std.specs.Prelude.{decimal}
 use Rattle.std.specs.List.{AllByRecursion, range_with_len}
@@ -22,7 +22,7 @@ pub record IsColumn (q s : ℕ) (column : List ℕ) : Type 0 where
   pub levels : q ^ length column ≤ 64
 
 pow-one : (q : ℕ) → q ^ 1 ≡ q
-pow-one q = pow-suc q 0 ∙ (let e : q ^ 0 ≡ 1 = pow-zero q in rw e (omega arith))
+pow-one q = pow-suc q 0 ∙ (rw (pow-zero q) (omega arith))
 
 range_in : (s : ℕ) → All (λ p. (1 ≤ p) × (p ≤ s)) (range_with_len 1 s)
 range_in s k d low =
@@ -31,7 +31,7 @@ range_in s k d low =
 
 pub free_in : (s : ℕ) (derived : List Derived) → All (λ p. (1 ≤ p) × (p ≤ s)) (free_places s derived)
 free_in s derived =
-    All-filter (λ p. not (is_bracketed derived p)) (λ p. (1 ≤ p) × (p ≤ s)) (range_with_len 1 s) (range_in s)
+    All-filter (λ p. not (is_bracketed derived p)) (λ p. (1 ≤ p) × (p ≤ s)) _ (range_in s)
 
 one_place : (q s p : ℕ) → q ≤ 9 → 1 ≤ p → p ≤ s → IsColumn q s (p ∷ [])
 one_place q s p small low high = record {
@@ -46,7 +46,7 @@ one_place q s p small low high = record {
 pub columns_fit : (q s : ℕ) (derived : List Derived) → q ≤ 9 → AreDerived q s derived
     → All (IsColumn q s) (column_places s derived)
 columns_fit q s derived small h =
-    All-append (IsColumn q s) (map (λ p. p ∷ []) (free_places s derived)) (map (λ (d : Derived). d.places) derived)
+    All-append (IsColumn q s) _ _
     (All-map (IsColumn q s) (λ p. p ∷ []) (free_places s derived)
     (λ k d low. let at = free_in s derived k d low in one_place q s _ small at.0 at.1))
     (All-map (IsColumn q s) (λ (d : Derived). d.places) derived
@@ -60,19 +60,19 @@ length-values_at : (q : ℕ) (recodes : List Recode) (place : ℕ)
     → AllByRecursion (λ (r : Recode). length r.values ≡ q) recodes → length (values_at q recodes place) ≡ q
 length-values_at q [] place h = length-default q
 length-values_at q (r ∷ recodes) place h =
-    one_of (r.place == place) r.values (values_at q recodes place) q h.0 (length-values_at q recodes place h.1)
+    one_of _ r.values _ q h.0 (length-values_at q recodes place h.1)
 
 free_lengths : (q : ℕ) (recodes : List Recode) → AllByRecursion (λ (r : Recode). length r.values ≡ q) recodes
     → (ps : List ℕ)
     → map length (map (λ p. values_at q recodes p) ps) ≡ map (λ places. q ^ length places) (map (λ p. p ∷ []) ps)
 free_lengths q recodes h [] = refl
 free_lengths q recodes h (p ∷ ps) =
-    ap₂ (λ (a : ℕ) (l : List ℕ). a ∷ l) (length-values_at q recodes p h ∙ sym (pow-one q)) (free_lengths q recodes h ps)
+    cc (length-values_at q recodes p h, pow-one q, free_lengths q recodes h ps)
 
 own_length : (n : ℕ) (values : List (List ℕ)) → (values ≢ [] → length values ≡ n)
     → length (values_or_codes n values) ≡ n
 own_length n [] h = length-map-range_with_len decimal 0 n
-own_length n (v ∷ values) h = h (λ e. (let bad : length (v ∷ values) ≡ 0 = ap length e in omega arith))
+own_length n (v ∷ values) h = h (λ e. (omega (arith, ap length e)))
 
 derived_lengths : (q : ℕ) (derived : List Derived)
     → AllByRecursion (λ (d : Derived). d.values ≢ [] → length d.values ≡ q ^ length d.places) derived
@@ -80,22 +80,25 @@ derived_lengths : (q : ℕ) (derived : List Derived)
     ≡ map (λ places. q ^ length places) (map (λ (d : Derived). d.places) derived)
 derived_lengths q [] h = refl
 derived_lengths q (d ∷ derived) h =
-    ap₂ (λ (a : ℕ) (l : List ℕ). a ∷ l) (own_length (q ^ length d.places) d.values h.0) (derived_lengths q derived h.1)
+    cc (own_length _ d.values h.0, derived_lengths q derived h.1)
 
 -- a value for each code of each column
 pub values_fit : (q s : ℕ) (recodes : List Recode) (derived : List Derived)
     → All (λ (r : Recode). length r.values ≡ q) recodes → AreDerived q s derived
     → map length (column_values q s recodes derived) ≡ map (λ places. q ^ length places) (column_places s derived)
 values_fit q s recodes derived hr hd =
-    map-append length (map (λ p. values_at q recodes p) (free_places s derived))
-    (map (λ (d : Derived). values_or_codes (q ^ length d.places) d.values) derived)
-    ∙ ap₂ (λ (a b : List ℕ). a ++ b)
-    (free_lengths q recodes (recursion_from_All (λ (r : Recode). length r.values ≡ q) recodes hr)
-    (free_places s derived))
-    (derived_lengths q derived
-    (recursion_from_All (λ (d : Derived). d.values ≢ [] → length d.values ≡ q ^ length d.places) derived hd.values))
-    ∙ sym (map-append (λ places. q ^ length places) (map (λ p. p ∷ []) (free_places s derived))
-    (map (λ (d : Derived). d.places) derived))
+    cc (
+      map-append length (map (values_at q recodes) (free_places s derived))
+          (map (λ d. values_or_codes (q ^ length d.places) d.values) derived),
+      free_lengths q recodes
+          (recursion_from_All _ recodes hr)
+          (free_places s derived),
+      derived_lengths q derived
+          (recursion_from_All _ derived hd.values),
+      map-append (λ places. q ^ length places)
+          (map (λ p. p ∷ []) (free_places s derived))
+          (map (λ d. d.places) derived),
+    )
 
 -- the column at a place
 pub column_at : (q s : ℕ) (derived : List Derived) (columns : List (List ℕ)) (i : ℕ) (column : List ℕ) → q ≤ 9

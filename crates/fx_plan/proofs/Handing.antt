@@ -1,5 +1,5 @@
 -- What a plan of a design of a step is handed.
-use Rattle.std.proofs.Common.{◌≡◌, ◌^◌, ◌∙◌, ℕ, List, length, refl, sym, ap}
+use Rattle.std.proofs.Common.{◌≡◌, ◌^◌, ℕ, List, length, refl}
 use Rattle.std.specs.Prelude.{Contains}
 use Rattle.std.proofs.lemmas.List.Elements.{All-contains}
 use Rattle.fx_settings.specs.declared.settings.Blocks.{Blocks}
@@ -18,11 +18,11 @@ use Rattle.fx_plan.specs.Steps.{IsDesignOf}
 values_for_blocks : (q t : ℕ) (blocks : Blocks) (values : List (List ℕ)) → (blocks ≡ Without → t ≡ 0)
     → ((u : ℕ) → blocks ≡ Factors u → t ≡ u)
     → block_count q blocks ≡ count.Fixed (length values) → length values ≡ q ^ t
-values_for_blocks q t Without values none own e = absurd (cc e)
+values_for_blocks q t Without values none own e = cc e
 values_for_blocks q t (Factors u) values none own e =
-    let many : q ^ u ≡ length values = cc e in sym many ∙ ap (λ (x : ℕ). q ^ x) (sym (own u refl))
-values_for_blocks q t (PerBlock k) values none own e = absurd (cc e)
-values_for_blocks q t Most values none own e = absurd (cc e)
+    let many : q ^ u ≡ length values = cc e in cc (own u refl)
+values_for_blocks q t (PerBlock k) values none own e = cc e
+values_for_blocks q t Most values none own e = cc e
 
 -- an output of a step can be planned for each of its designs
 pub can_be_planned : (step : Step) (matrix : MatrixView) (output : OutputSpec) → IsDesignOf step matrix
@@ -32,8 +32,8 @@ can_be_planned step matrix output design asked =
     All-contains (IsWithinLimits (context step.factors step.settings)) step.outputs output step.outputs_within_limits
     asked in
     record {
-      names = sym design.factors;
-      recodes = λ k d low. (known.recodes.each k d low).each_level ∙ sym design.levels;
+      names = cc;
+      recodes = λ k d low. cc ((known.recodes.each k d low).each_level, design.levels);
       derived = rw (design.levels, design.factors) known.derived;
       block_values =
           λ some. rw design.levels

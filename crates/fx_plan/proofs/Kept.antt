@@ -1,6 +1,6 @@
 -- What holds of each item of a list, of which runs and values are shuffled.
 use Rattle.std.proofs.Common.{ℕ, ◌≡◌, ◌+◌, ◌-◌, ◌==◌, zero, suc, List, [], ◌∷◌, length, map, filter}
-use Rattle.std.proofs.Common.{set, get_or, swap, refl, sym, subst, ◌∙◌, ap₂, arith, inl, inr, All}
+use Rattle.std.proofs.Common.{get_or, swap, refl, sym, subst, ◌∙◌, arith, inl, inr, All}
 use Rattle.std.specs.List.{AllByRecursion, flat_map, range_with_len}
 use Rattle.std.proofs.Math.ListN.{get_or-eq_default}
 use Rattle.std.proofs.lemmas.Bool.{cases_lt}
@@ -23,14 +23,14 @@ module _ {X : Type 0} (P : X → Type 0) where
   pub swap_keeps : (xs : List X) (i j : ℕ) → All P xs → All P (swap xs i j)
   swap_keeps [] i j h = h
   swap_keeps (d ∷ ys) i j h =
-      All-set P (set (d ∷ ys) i (get_or (d ∷ ys) j d)) j (get_or (d ∷ ys) i d) (at_any d ys i h)
-      (All-set P (d ∷ ys) i (get_or (d ∷ ys) j d) (at_any d ys j h) h)
+      All-set P _ j _ (at_any d ys i h)
+      (All-set P (d ∷ ys) i _ (at_any d ys j h) h)
 
   exchanged_keeps : (k : ℕ) (g : Lcg) (xs : List X) → All P xs → All P (exchanged g k xs).0
   exchanged_keeps zero g xs h = h
   exchanged_keeps (suc k) g xs h =
       exchanged_keeps k (drawn g (k + 2)).1 (swap xs (k + 1) (drawn g (k + 2)).0)
-      (swap_keeps xs (k + 1) (drawn g (k + 2)).0 h)
+      (swap_keeps xs _ (drawn g (k + 2)).0 h)
 
   pub shuffled_keeps : (g : Lcg) (xs : List X) → All P xs → All P (shuffled g xs).0
   shuffled_keeps g xs h = exchanged_keeps (length xs - 1) g xs h
@@ -38,7 +38,7 @@ module _ {X : Type 0} (P : X → Type 0) where
   pub flat_map_keeps : {Y : Type 0} (f : Y → List X) (ys : List Y) → AllByRecursion (λ y. All P (f y)) ys
       → All P (flat_map f ys)
   flat_map_keeps f [] h = λ k d low. absurd (omega arith)
-  flat_map_keeps f (y ∷ ys) h = All-append P (f y) (flat_map f ys) h.0 (flat_map_keeps f ys h.1)
+  flat_map_keeps f (y ∷ ys) h = All-append P _ _ h.0 (flat_map_keeps f ys h.1)
 
 -- what shuffling keeps of a list, it keeps of each of some lists
 pub each_keeps : {X : Type 0} (Q : List X → Type 0) → ((g : Lcg) (xs : List X) → Q xs → Q (shuffled g xs).0)
@@ -55,12 +55,12 @@ each_filter P block xs (z ∷ zs) h = (All-filter (λ x. block x == z) P xs h, e
 pub order_keeps : (P : ℕ → Type 0) (g : Lcg) (block : ℕ → ℕ) (n : ℕ) (xs : List ℕ) → All P xs
     → All P (shuffled_in_blocks g block n xs).0
 order_keeps P g block n xs h =
-    let groups : List (List ℕ) = by_group block n xs in
-    let all : All (All P) groups = All-from_recursion (All P) groups (each_filter P block xs (range_with_len 0 n) h) in
-    let mixed : AllByRecursion (All P) (shuffled g groups).0 =
-    recursion_from_All (All P) (shuffled g groups).0 (shuffled_keeps (All P) g groups all) in
-    flat_map_keeps P (λ group. group) (all_shuffled g groups).0
-    (each_keeps (All P) (λ g xs. shuffled_keeps P g xs) (shuffled g groups).0 (shuffled g groups).1 mixed)
+    let groups = by_group block n xs in
+    let all : All (All P) groups = All-from_recursion _ groups (each_filter P block xs (range_with_len 0 n) h) in
+    let mixed =
+    recursion_from_All _ (shuffled g groups).0 (shuffled_keeps (All P) g groups all) in
+    flat_map_keeps P _ (all_shuffled g groups).0
+    (each_keeps _ (λ g xs. shuffled_keeps P g xs) (shuffled g groups).0 (shuffled g groups).1 mixed)
 
 length-exchanged : {X : Type 0} (k : ℕ) (g : Lcg) (xs : List X) → length (exchanged g k xs).0 ≡ length xs
 length-exchanged zero g xs = refl
@@ -73,5 +73,4 @@ pub lengths_shuffled : {X : Type 0} (g : Lcg) (lists : List (List X))
     → map length (each_shuffled g lists).0 ≡ map length lists
 lengths_shuffled g [] = refl
 lengths_shuffled g (xs ∷ rest) =
-    ap₂ (λ (a : ℕ) (l : List ℕ). a ∷ l) (length-exchanged (length xs - 1) g xs)
-    (lengths_shuffled (shuffled g xs).1 rest)
+    cc (length-exchanged (length xs - 1) g xs, lengths_shuffled (shuffled g xs).1 rest)

@@ -1,6 +1,6 @@
 -- The rows of a product, by their numbers.
-use Rattle.std.proofs.Common.{ℕ, zero, suc, ◌≡◌, ◌<◌, ◌≤◌, ◌+◌, ◌*◌, ◌/◌, ◌%◌, true, List, [], ◌++◌, length}
-use Rattle.std.proofs.Common.{get_or, sym, ◌∙◌, ap, arith, mod-lt, div-lt_iff_lt-mul}
+use Rattle.std.proofs.Common.{ℕ, zero, suc, ◌≡◌, ◌<◌, ◌≤◌, ◌+◌, ◌*◌, ◌/◌, ◌%◌, true, [], ◌++◌, length}
+use Rattle.std.proofs.Common.{get_or, ap, arith, mod-lt, div-lt_iff_lt-mul}
 use Rattle.std.proofs.Math.Nat.{div-add-mod, mul-le-mul_left}
 use Rattle.fx_derived.specs.Tables.{TableView, crossed}
 use Rattle.fx_derived.proofs.Pairing.{length-pairs, pair_at}
@@ -36,40 +36,40 @@ module _ (runs inner outer : TableView) where
     run_low = mod-lt (r / each) some_runs
 
     groups_low : r / each < all * n
-    groups_low = (div-lt_iff_lt-mul {k = each} {x = r} {y = all * n} some_inside).1 (omega (arith, there))
+    groups_low = (div-lt_iff_lt-mul {k = each} {x = r} {y = all * n} some_inside).1 (omega arith)
 
     pub outside_low : r / each / n < all
     outside_low = (div-lt_iff_lt-mul {k = n} {x = r / each} {y = all} some_runs).1 groups_low
 
     number_is : r ≡ r / each / n * (n * each) + ((r / each) % n * each + r % each)
     number_is =
-        let a : ℕ = r / each in
-        let one : each * a + r % each ≡ r = div-add-mod r each in
-        let two : n * (a / n) + a % n ≡ a = div-add-mod a n in
-        let three : each * (n * (a / n) + a % n) ≡ each * a = ap (λ (x : ℕ). each * x) two in
-        omega (arith, one, three)
+        let a = r / each in
+        let one = div-add-mod r each in
+        let three = ap (λ (x : ℕ). each * x) (div-add-mod a n) in
+        omega arith
 
     -- row r: that of its run, of the first table and of the second
     pub row_is : get_or (replicated runs inner outer).rows r []
         ≡ (get_or runs.rows ((r / each) % n) [] ++ get_or inner.rows (r % each) [])
         ++ get_or outer.rows (r / each / n) []
     row_is =
-        let rows : List (List (List ℕ)) = (crossed true runs inner).rows in
-        let o : ℕ = r / each / n in
-        let k : ℕ = (r / each) % n in
-        let i : ℕ = r % each in
-        let long : length rows ≡ n * each = length-pairs (λ x y. x ++ y) inner.rows runs.rows in
+        let rows = (crossed true runs inner).rows in
+        let o = r / each / n in
+        let k = (r / each) % n in
+        let i = r % each in
+        let long = length-pairs (λ x y. x ++ y) inner.rows runs.rows in
         let spot : r ≡ o * length rows + (k * each + i) =
-        number_is ∙ ap (λ (l : ℕ). o * l + (k * each + i)) (sym long) in
-        let low : k * each + i < length rows = (let a = pair_low in omega (arith, long, a)) in
-        ap (λ (x : ℕ). get_or (replicated runs inner outer).rows x []) spot
-        ∙ pair_at (λ y x. x ++ y) rows outer.rows o (k * each + i) [] [] [] outside_low low
-        ∙ ap (λ (l : List (List ℕ)). l ++ get_or outer.rows o [])
-        (pair_at (λ x y. x ++ y) inner.rows runs.rows k i [] [] [] run_low inside_low)
+        cc number_is in
+        cc (
+          pair_at (λ y x. x ++ y) rows outer.rows o (k * each + i) [] [] [] outside_low
+              (let a = pair_low in omega arith),
+          pair_at (λ x y. x ++ y) inner.rows runs.rows k i [] [] [] run_low
+              inside_low,
+        )
       where
         pair_low : (r / each) % n * each + r % each < n * each
         pair_low =
             let above : (r / each) % n + 1 ≤ n = (let a = run_low in omega arith) in
             let wide = mul-le-mul_left each above in
             let b = inside_low in
-            omega (arith, wide, b)
+            omega arith

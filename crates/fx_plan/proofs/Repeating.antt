@@ -1,6 +1,6 @@
 -- How often a run comes in the rows of a plan.
-use Rattle.std.proofs.Common.{ℕ, ◌≡◌, ◌<◌, ◌+◌, ◌*◌, ◌/◌, ◌%◌, ◌^◌, zero, suc, cond, eqb, List, [], ◌∷◌}
-use Rattle.std.proofs.Common.{◌++◌, length, refl, sym, ◌∙◌, ap, ap₂, arith, All, mod-lt}
+use Rattle.std.proofs.Common.{ℕ, ◌≡◌, ◌<◌, ◌+◌, ◌*◌, ◌/◌, ◌%◌, ◌^◌, zero, suc, cond, eqb, [], ◌∷◌}
+use Rattle.std.proofs.Common.{◌++◌, length, refl, ◌∙◌, ap, arith, All, mod-lt}
 use Rattle.std.specs.List.{sum_by, range_with_len}
 use Rattle.std.proofs.lemmas.Nat.{div-mul-add, mod-mul-add}
 use Rattle.std.proofs.lemmas.List.FromFn.{length-range_with_len}
@@ -13,9 +13,8 @@ use Rattle.fx_outputs.specs.declared.output.OutputSpec.{OutputSpec}
 use Rattle.fx_outputs.specs.declared.shuffle.Shuffle.{Shuffle}
 use Rattle.fx_outputs.specs.declared.shuffle.Shuffle.TheVariants.{Kept, Default, Seed}
 use Rattle.fx_runs.specs.Runs.{RunsView, AreRuns}
-use Rattle.fx_runs.specs.RunBlocks.{block_of, run_at}
+use Rattle.fx_runs.specs.RunBlocks.{block_of}
 use Rattle.fx_runs.proofs.Steps.{number_in}
-use Rattle.fx_plan.specs.Draws.{generator}
 use Rattle.fx_plan.specs.Plans.{Arrangement, arranged}
 use Rattle.fx_plan.specs.Products.{arrangement_of, run_of}
 use Rattle.fx_plan.proofs.ProductRows.{some_of}
@@ -25,30 +24,30 @@ range_parts : (a n k : ℕ) → range_with_len a (n + k) ≡ range_with_len a n 
 range_parts a zero k =
     let all : zero + k ≡ k = omega arith in
     let from : a ≡ a + zero = omega arith in
-    ap (range_with_len a) all ∙ ap (λ (x : ℕ). range_with_len x k) from
+    cc
 range_parts a (suc n) k =
     let all : suc n + k ≡ suc (n + k) = omega arith in
     let from : a + 1 + n ≡ a + suc n = omega arith in
-    ap (range_with_len a) all
-    ∙ ap (λ (l : List ℕ). a ∷ l)
-    (range_parts (a + 1) n k ∙ ap (λ (x : ℕ). range_with_len (a + 1) n ++ range_with_len x k) from)
+    cc (range_parts (a + 1) n k)
 
 -- numbers that are moved
 moved : (f : ℕ → ℕ) (c a n : ℕ) → sum_by f (range_with_len (c + a) n) ≡ sum_by (λ x. f (c + x)) (range_with_len a n)
 moved f c a zero = refl
 moved f c a (suc n) =
     let next : c + a + 1 ≡ c + (a + 1) = omega arith in
-    sum_by-cons f (c + a) (range_with_len (c + a + 1) n)
-    ∙ ap (λ (x : ℕ). f (c + a) + sum_by f (range_with_len x n)) next
-    ∙ ap (λ (s : ℕ). f (c + a) + s) (moved f c (a + 1) n)
-    ∙ sym (sum_by-cons (λ x. f (c + x)) a (range_with_len (a + 1) n))
+    cc (
+      sum_by-cons f (c + a) (range_with_len (c + a + 1) n),
+      moved f c (a + 1) n,
+      sum_by-cons (λ x. f (c + x)) a
+          (range_with_len (a + 1) n),
+    )
 
 -- the sum over the numbers in part n of equal parts
 part : (f : ℕ → ℕ) (size n : ℕ)
     → sum_by f (range_with_len (n * size) size) ≡ sum_by (λ x. f (n * size + x)) (range_with_len 0 size)
 part f size n =
     let from : n * size ≡ n * size + 0 = omega arith in
-    ap (λ (x : ℕ). sum_by f (range_with_len x size)) from ∙ moved f (n * size) 0 size
+    cc (moved f (n * size) 0 size)
 
 parts_more : (f : ℕ → ℕ) (size n : ℕ)
     → sum_by f (range_with_len 0 (suc n * size))
@@ -56,11 +55,12 @@ parts_more : (f : ℕ → ℕ) (size n : ℕ)
 parts_more f size n =
     let e : suc n * size ≡ n * size + size = omega arith in
     let from : 0 + n * size ≡ n * size = omega arith in
-    ap (λ (x : ℕ). sum_by f (range_with_len 0 x)) e
-    ∙ ap (sum_by f) (range_parts 0 (n * size) size)
-    ∙ sum_by-append f (range_with_len 0 (n * size)) (range_with_len (0 + n * size) size)
-    ∙ ap (λ (x : ℕ). sum_by f (range_with_len 0 (n * size)) + sum_by f (range_with_len x size)) from
-    ∙ ap (λ (x : ℕ). sum_by f (range_with_len 0 (n * size)) + x) (part f size n)
+    cc (
+      range_parts 0 (n * size) size,
+      sum_by-append f (range_with_len 0 (n * size))
+          (range_with_len (0 + n * size) size),
+      part f size n,
+    )
 
 -- each number so many times in succession
 in_succession : (g : ℕ → ℕ) (each n : ℕ)
@@ -68,21 +68,22 @@ in_succession : (g : ℕ → ℕ) (each n : ℕ)
 in_succession g each zero =
     let none : 0 * each ≡ 0 = omega arith in
     let left : 0 ≡ each * 0 = omega arith in
-    ap (λ (x : ℕ). sum_by (λ r. g (r / each)) (range_with_len 0 x)) none ∙ left
+    ap (λ x. sum_by (λ r. g (r / each)) (range_with_len 0 x)) none ∙ left
 in_succession g each (suc n) =
-    let same : sum_by (λ x. g ((n * each + x) / each)) (range_with_len 0 each) ≡ each * g n =
+    let same =
     sum_by-same (λ x. g ((n * each + x) / each)) (λ x. g n) 0 each
-    (λ x low high. ap g (div-mul-add n each x (omega arith)))
-    ∙ sum_by-constant (g n) (range_with_len 0 each) ∙ ap (λ (l : ℕ). l * g n) (length-range_with_len 0 each) in
+    (λ x low high. cc (div-mul-add n each x (omega arith)))
+    ∙ sum_by-constant (g n) (range_with_len 0 each) ∙ ap (λ l. l * g n) (length-range_with_len 0 each) in
     let up : suc n ≡ n + 1 = omega arith in
     let last : sum_by g (n ∷ []) ≡ g n = sum_by-cons g n [] ∙ omega arith in
     let more : sum_by g (range_with_len 0 (suc n)) ≡ sum_by g (range_with_len 0 n) + g n =
-    ap (λ (x : ℕ). sum_by g (range_with_len 0 x)) up ∙ ap (sum_by g) (range_push 0 n n (omega arith))
-    ∙ sum_by-append g (range_with_len 0 n) (n ∷ []) ∙ ap (λ (x : ℕ). sum_by g (range_with_len 0 n) + x) last in
-    parts_more (λ r. g (r / each)) each n
-    ∙ ap₂ (λ (a b : ℕ). a + b) (in_succession g each n) same
-    ∙ together each (sum_by g (range_with_len 0 n)) (g n)
-    ∙ ap (λ (x : ℕ). each * x) (sym more)
+    cc (range_push 0 n n (omega arith), sum_by-append g (range_with_len 0 n) (n ∷ [])) in
+    cc (
+      parts_more (λ r. g (r / each)) each n,
+      in_succession g each n,
+      together each (sum_by g (range_with_len 0 n))
+          (g n),
+    )
   where
     together : (e a b : ℕ) → e * a + e * b ≡ e * (a + b)
     together e a b = grind arith
@@ -93,13 +94,14 @@ in_turn : (g : ℕ → ℕ) (n all : ℕ)
 in_turn g n zero =
     let none : 0 * n ≡ 0 = omega arith in
     let left : 0 ≡ 0 * sum_by g (range_with_len 0 n) = omega arith in
-    ap (λ (x : ℕ). sum_by (λ r. g (r % n)) (range_with_len 0 x)) none ∙ left
+    ap (λ x. sum_by (λ r. g (r % n)) (range_with_len 0 x)) none ∙ left
 in_turn g n (suc all) =
-    let same : sum_by (λ x. g ((all * n + x) % n)) (range_with_len 0 n) ≡ sum_by g (range_with_len 0 n) =
-    sum_by-same (λ x. g ((all * n + x) % n)) g 0 n (λ x low high. ap g (mod-mul-add all n x (omega arith))) in
-    parts_more (λ r. g (r % n)) n all
-    ∙ ap₂ (λ (a b : ℕ). a + b) (in_turn g n all) same
-    ∙ once_more all (sum_by g (range_with_len 0 n))
+    cc (
+      parts_more (λ r. g (r % n)) n all,
+      in_turn g n all,
+      (sum_by-same (λ x. g ((all * n + x) % n)) g 0 n (λ x low high. cc (mod-mul-add all n x (omega arith)))),
+      once_more all (sum_by g (range_with_len 0 n)),
+    )
   where
     once_more : (a s : ℕ) → a * s + s ≡ suc a * s
     once_more a s = grind arith
@@ -110,11 +112,11 @@ pub run_total : (n each all k : ℕ) → k < n
 run_total n each all k low =
     let one : ℕ → ℕ = λ x. cond (eqb x k) 1 0 in
     let all_of_it : all * 1 ≡ all = omega arith in
-    ap (λ (x : ℕ). sum_by (λ r. one (run_of each n r)) (range_with_len 0 x)) (in_order n each all)
+    ap (λ x. sum_by (λ r. one (run_of each n r)) (range_with_len 0 x)) (in_order n each all)
     ∙ in_succession (λ y. one (y % n)) each (all * n)
-    ∙ ap (λ (x : ℕ). each * x)
+    ∙ ap (λ x. each * x)
     (in_turn one n all
-    ∙ ap (λ (x : ℕ). all * x) (sum_by-pick (λ x. 1) k 0 n (omega arith) (omega arith)) ∙ all_of_it)
+    ∙ ap (λ x. all * x) (sum_by-pick (λ x. 1) k 0 n (omega arith) (omega arith)) ∙ all_of_it)
   where
     in_order : (a b c : ℕ) → a * b * c ≡ c * a * b
     in_order a b c = grind arith
@@ -122,15 +124,15 @@ run_total n each all k low =
 pub block_low : (runs : RunsView) → AreRuns runs.shape runs.rows → (k : ℕ) → k < length runs.rows
     → block_of runs k < runs.shape.q ^ runs.shape.t
 block_low runs h k low =
-    number_in runs.shape.q runs.shape.s runs.shape.t runs.shape.s (run_at runs k)
+    number_in runs.shape.q runs.shape.s runs.shape.t runs.shape.s _
     (omega (arith, (is_order-field runs.shape.q h.shaped.order).more_than_one)) (omega arith) (h.each k [] low)
 
 module _ (f : ℕ → ℕ) (block : ℕ → ℕ) (n : ℕ) where
   arranged_total : (shuffle : Shuffle) (seed : ℕ) (a : Arrangement) → All (λ x. block x < n) a.order
       → sum_by f (arranged shuffle seed block n a).order ≡ sum_by f a.order
   arranged_total Kept seed a h = refl
-  arranged_total (Default values) seed a h = order_total f block n (generator seed) a.order h
-  arranged_total (Seed own values) seed a h = order_total f block n (generator own) a.order h
+  arranged_total (Default values) seed a h = order_total f block n _ a.order h
+  arranged_total (Seed own values) seed a h = order_total f block n _ a.order h
 
 -- what is counted in the rows of a plan is what is counted in the rows that they reorder
 pub plan_total : (f : ℕ → ℕ) (runs : RunsView) (output : OutputSpec) (seed : ℕ) (inner outer : TableView)
@@ -138,9 +140,9 @@ pub plan_total : (f : ℕ → ℕ) (runs : RunsView) (output : OutputSpec) (seed
     → sum_by f (arrangement_of runs output seed inner outer).order
     ≡ sum_by f (range_with_len 0 (length runs.rows * length inner.rows * length outer.rows))
 plan_total f runs output seed inner outer h =
-    let n : ℕ = length runs.rows in
-    let each : ℕ = length inner.rows in
-    let all : ℕ = length outer.rows in
-    arranged_total f (λ r. block_of runs (run_of each n r)) (runs.shape.q ^ runs.shape.t) output.shuffle seed _
+    let n = length runs.rows in
+    let each = length inner.rows in
+    let all = length outer.rows in
+    arranged_total f (λ r. block_of runs (run_of each n r)) _ output.shuffle seed _
     (λ k d low. block_low runs h _
     (mod-lt _ (some_of n each all k (omega (arith, length-range_with_len 0 (n * each * all)))).0))

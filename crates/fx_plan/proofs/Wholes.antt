@@ -1,5 +1,5 @@
 -- The plan, from what the calls for its parts return.
-use Rattle.std.proofs.Common.{ℕ, ◌≡◌, ◌*◌, ◌^◌, Bool, List, length, sym, ◌∙◌, ap, ap₂}
+use Rattle.std.proofs.Common.{ℕ, ◌≡◌, ◌*◌, ◌^◌, Bool, List, length, ◌∙◌, ap}
 use Rattle.std.specs.List.{range_with_len}
 use Rattle.rand_pcg.specs.Lcg.{Lcg}
 use Rattle.fx_outputs.specs.declared.shuffle.Shuffle.{Shuffle}
@@ -33,9 +33,7 @@ module _ (names : List (List ℕ)) (runs : RunsView) (output : OutputSpec) (inne
       → table (arranged shuffle seed block block_count (arrangement order values))
       ≡ plan_of names runs output seed inner outer
   plan_by seed order values shuffle e1 e2 e3 =
-      ap₂ (λ (o : List ℕ) (v : List (List (List ℕ))). table (arranged shuffle seed block block_count (arrangement o v)))
-      e2 e3
-      ∙ ap (λ (s : Shuffle). table (arranged s seed block block_count (arrangement first_order first_values))) (sym e1)
+      cc
 
   -- rows and values that are shuffled
   pub shuffled_parts : (g h : Lcg) (too : Bool) (before order : List ℕ) (values shuffled : List (List (List ℕ)))
@@ -43,5 +41,5 @@ module _ (names : List (List ℕ)) (runs : RunsView) (output : OutputSpec) (inne
       → shuffled ≡ shuffled_values too h values
       → table (arrangement order shuffled) ≡ table (shuffled_by g too block block_count (arrangement before values))
   shuffled_parts g h too before order values shuffled e1 e2 =
-      ap (λ (v : List (List (List ℕ))). table (arrangement order v)) e2
-      ∙ ap (λ (p : List ℕ × Lcg). table (arrangement p.0 (shuffled_values too p.1 values))) e1
+      ap (λ v. table (arrangement order v)) e2
+      ∙ ap (λ p. table (arrangement p.0 (shuffled_values too p.1 values))) e1

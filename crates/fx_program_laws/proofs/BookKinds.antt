@@ -1,8 +1,8 @@
 -- A book of marks is none of a table.
-use Rattle.std.proofs.Common.{ℕ, ◌≡◌, ◌∷◌, ◌++◌, ◌∙◌, Bool, true, false, cond, List, [], length, drop, take, Ok, Err}
+use Rattle.std.proofs.Common.{ℕ, ◌≡◌, ◌∷◌, ◌++◌, Bool, true, false, cond, List, [], length, drop, take, Ok, Err}
 use Rattle.std.proofs.Common.{refl}
-use Rattle.std.proofs.Common.{sym, ap, subst, inl, inr, take-append-drop}
-use Rattle.std.specs.Prelude.{None, codes, is_some, nat_lt}
+use Rattle.std.proofs.Common.{subst, inl, inr, take-append-drop}
+use Rattle.std.specs.Prelude.{None, codes, is_some}
 use Rattle.std.specs.Str.{bytes_eq}
 use Rattle.std.proofs.lemmas.Bool.{cases_Bool, cond-false, or_cases}
 use Rattle.std.proofs.lemmas.Slice.Eq.{bytes_eq-Decides}
@@ -16,7 +16,6 @@ use Rattle.fx_book.proofs.Back.{Without, split_line}
 use Rattle.fx_table_book.specs.Texts as tables
 use Rattle.fx_program.specs.Commands.{checked_output, is_of_table}
 use Rattle.fx_program.specs.Output.{verdict_output}
-use Rattle.fx_program.specs.TableVerdicts.{table_verdict}
 use Rattle.fx_program.specs.Words.{after_prefix}
 
 -- a text that begins so
@@ -24,10 +23,8 @@ begins : (front text : List ℕ) → is_some (after_prefix front text) ≡ true 
 begins front text some =
     elim (cases_Bool (bytes_eq (take (length front) text) front)) [
       | inl same ↦
-          sym (take-append-drop (length front) text)
-          ∙ ap (λ (l : List ℕ). l ++ drop (length front) text)
-          ((bytes_eq-Decides (take (length front) text) front).0 same)
-      | inr other ↦ absurd (cc (rw other at some))
+          cc (take-append-drop (length front) text, (bytes_eq-Decides (take (length front) text) front).0 same)
+      | inr other ↦ cc (rw other at some)
     ]
 
 module _ (title : List ℕ) (plain : Without 10 title) (other : version_of title ≡ None) where
@@ -42,7 +39,7 @@ module _ (title : List ℕ) (plain : Without 10 title) (other : version_of title
 
   no_book : (rest : List ℕ) (book : Book) → book_of (title ++ 10 ∷ rest) ≡ Ok book → ⊥
   unfolding book_of
-  no_book rest book e = none_read (nat_lt 268435456 (length (title ++ 10 ∷ rest))) _ rest book e
+  no_book rest book e = none_read _ _ rest book e
 
 first_plain : Without 10 (codes "factex-table 1")
 first_plain =
@@ -71,7 +68,7 @@ marks_alone text book read =
 pub checked_read : (text : List ℕ) (book : Book) → book_of text ≡ Ok book
     → checked_output text ≡ verdict_output (book_of text)
 checked_read text book read =
-    cond-false (is_of_table text) (table_verdict (tables.book_of text)) (verdict_output (book_of text))
+    cond-false _ _ _
     (marks_alone text book read)
 
 pub checked_marks : (book : Book) → checked_output (book_text book) ≡ verdict_output (book_of (book_text book))

@@ -1,8 +1,8 @@
 -- How long the text of a book may be.
-use Rattle.std.proofs.Common.{ℕ, ◌≡◌, ◌<◌, ◌≤◌, ◌+◌, ◌*◌, ◌^◌, List, [], ◌∷◌, ◌++◌, length, Option, Some, None, ap}
-use Rattle.std.proofs.Common.{arith, length-append, lit<, Bool, inl, inr, sym, subst, ◌∙◌}
+use Rattle.std.proofs.Common.{ℕ, ◌≡◌, ◌<◌, ◌≤◌, ◌+◌, ◌*◌, ◌^◌, List, [], ◌∷◌, ◌++◌, length, Option, Some, None}
+use Rattle.std.proofs.Common.{arith, length-append, lit<, Bool, inl, inr, sym, subst}
 use Rattle.std.proofs.lemmas.Bool.{cases_Bool, leb-true, cases_lt, cond-true, cond-false, eq-eqb, ne_eqb}
-use Rattle.std.specs.Prelude.{◌==◌, codes, decimal, map}
+use Rattle.std.specs.Prelude.{codes, decimal, map}
 use Rattle.std.specs.List.{AllByRecursion}
 use Rattle.std.proofs.Math.Nat.{pow-le-pow_right, suc-mul}
 use Rattle.std.proofs.lemmas.Fmt.{length-decimal-le_wide}
@@ -44,64 +44,58 @@ spaced_short k (n ∷ numbers) some low =
     let joined = length-append (decimal n) (spaced numbers) in
     let blank = length-append (codes " ") (decimal n ++ spaced numbers) in
     let more = suc-mul (length numbers) (k + 1) in
-    omega (arith, own, rest, joined, blank, more)
+    omega arith
 
 -- the places and the codes of a word, with a blank before each
 places_short : (q place : ℕ) (v : List ℕ) → q ≤ 9 → place + length v ≤ 100 → AllByRecursion (λ c. c < q) v
     → length (after_blanks (map entry_part (entries_from place v))) ≤ 5 * weight v
 places_short q place [] small long low = omega arith
 places_short q place (code ∷ v) small long low =
-    let rest = places_short q (place + 1) v small (omega (arith, long)) low.1 in
-    let later : List (ℕ × ℕ) = entries_from (place + 1) v in
-    let tail : List ℕ = after_blanks (map entry_part later) in
+    let rest = places_short q (place + 1) v small (omega arith) low.1 in
+    let later = entries_from (place + 1) v in
+    let tail = after_blanks (map entry_part later) in
     elim (cases_lt 0 code) [
       | inr none ↦
-          let zero : code ≡ 0 = omega (arith, none) in
-          let same : weight (code ∷ v) ≡ weight v = ap (λ c. weight (c ∷ v)) zero ∙ weight-none v in
-          let places : entries_from place (code ∷ v) ≡ later =
-          cond-true (code == 0) later ((place, code) ∷ later) (eq-eqb code 0 zero) in
-          subst (λ n. length (after_blanks (map entry_part (entries_from place (code ∷ v)))) ≤ 5 * n) (sym same)
-          (subst (λ l. length (after_blanks (map entry_part l)) ≤ 5 * weight v) (sym places) rest)
+          let zero : code ≡ 0 = omega arith in
+          let same : weight (code ∷ v) ≡ weight v = cc (weight-none v) in
+          rw same (rw (← (cond-true _ later ((place, code) ∷ later) (eq-eqb code 0 zero))) at rest)
       | inl some ↦
-          let more : weight (code ∷ v) ≡ 1 + weight v = weight-some code v some in
-          let places : entries_from place (code ∷ v) ≡ (place, code) ∷ later =
-          cond-false (code == 0) later ((place, code) ∷ later) (ne_eqb code 0 (λ e. absurd (omega (arith, e, some)))) in
-          let first = short 2 place (omega arith) (omega (arith, long)) (omega (arith, long)) in
-          let second = short 1 code (omega arith) (omega (arith, small, low.0)) (omega (arith, small, low.0)) in
+          let first = short 2 place (omega arith) (omega arith) (omega arith) in
+          let second = short 1 code (omega arith) (omega arith) (omega arith) in
           let own : length (after_blanks (map entry_part ((place, code) ∷ later))) ≤ 5 * (1 + weight v) =
           omega (
             arith,
-            rest,
-            first,
-            second,
             length-append (codes " ") (entry_part (place, code) ++ tail),
-            length-append (entry_part (place, code)) tail,
+            length-append
+                (entry_part (place, code)) tail,
             length-append (decimal place) (codes ":" ++ decimal code),
-            length-append (codes ":") (decimal code),
+            length-append
+                (codes ":") (decimal code),
           ) in
-          subst (λ n. length (after_blanks (map entry_part (entries_from place (code ∷ v)))) ≤ 5 * n) (sym more)
-          (subst (λ l. length (after_blanks (map entry_part l)) ≤ 5 * (1 + weight v)) (sym places) own)
+          rw (weight-some code v some)
+          (subst (λ l. length (after_blanks (map entry_part l)) ≤ 5 * (1 + weight v))
+          (sym (cond-false _ later ((place, code) ∷ later) (ne_eqb code 0 (λ e. absurd (omega arith))))) own)
     ]
 
 -- a word with the blanks before its parts
 word_short : (d : Dimensions) (word : ℕ) → 0 < d.q → d.q ≤ 9 → d.s + d.t ≤ 99 → word < 2 ^ 127
     → length (after_blanks (word_parts Second d word)) ≤ 41
 word_short d word some small few low =
-    let v : List ℕ = vector_of d word in
+    let v = vector_of d word in
     let is = digits-vector d.q (d.s + d.t) word some in
     elim (cases_Bool (is_short d word)) [
       | inl light ↦
-          let places = places_short d.q 1 v small (omega (arith, is.len, few)) is.codes in
-          let few_places : weight v ≤ 8 = leb-true (weight v) 8 light in
-          rw light (omega (arith, places, few_places))
+          let places = places_short d.q 1 v small (omega arith) is.codes in
+          let few_places = leb-true _ 8 light in
+          rw light (omega arith)
       | inr heavy ↦
           let top : 2 ^ 127 < 10 ^ 39 = lit< tt in
-          let own = short 39 word (omega arith) (omega (arith, low, top)) (omega (arith, low)) in
+          let own = short 39 word (omega arith) (omega arith) (omega arith) in
           rw heavy (omega (
             arith,
-            own,
             length-append (codes " ") ((codes "#" ++ decimal word) ++ []),
-            length-append (codes "#" ++ decimal word) [],
+            length-append
+                (codes "#" ++ decimal word) [],
             length-append (codes "#") (decimal word),
           ))
     ]
@@ -111,31 +105,28 @@ module _ (d : Dimensions) (some : 0 < d.q) (small : d.q ≤ 9) (rows : d.s + d.t
     (words : d.q ^ (d.s + d.t) < 2 ^ 127) (beaten : Bool) where
   entry_short : (mark : Mark) → IsEntry d beaten mark → length (entry_text Second d mark) ≤ 48
   entry_short (Branch row) h =
-      let own = short 4 row (omega arith) (omega (arith, h, few)) (omega (arith, h, few)) in
+      let own = short 4 row (omega arith) (omega arith) (omega arith) in
       omega (
         arith,
-        own,
         length-append (codes "O ") (decimal row ++ codes "\n"),
         length-append (decimal row)
             (codes "\n"),
       )
   entry_short (Word row word) h =
-      let own = short 4 row (omega arith) (omega (arith, h.0, few)) (omega (arith, h.0, few)) in
-      let parts : List ℕ = after_blanks (word_parts Second d word) in
-      let other = word_short d word some small rows (omega (arith, h.2, words)) in
+      let own = short 4 row (omega arith) (omega arith) (omega arith) in
+      let parts = after_blanks (word_parts Second d word) in
+      let other = word_short d word some small rows (omega arith) in
       omega (
         arith,
-        own,
-        other,
         length-append (codes "W ") (decimal row ++ (parts ++ codes "\n")),
-        length-append (decimal row) (parts ++ codes "\n"),
+        length-append (decimal row)
+            (parts ++ codes "\n"),
         length-append parts (codes "\n"),
       )
   entry_short (Worse row) h =
-      let own = short 4 row (omega arith) (omega (arith, h.0, few)) (omega (arith, h.0, few)) in
+      let own = short 4 row (omega arith) (omega arith) (omega arith) in
       omega (
         arith,
-        own,
         length-append (codes "P ") (decimal row ++ codes "\n"),
         length-append (decimal row)
             (codes "\n"),
@@ -147,29 +138,27 @@ module _ (d : Dimensions) (some : 0 < d.q) (small : d.q ≤ 9) (rows : d.s + d.t
   entries_short (mark ∷ marks) h =
       let own = entry_short mark h.0 in
       let rest = entries_short marks h.1 in
-      omega (arith, own, rest, length-append (entry_text Second d mark) (entries_text Second d marks))
+      omega (arith, length-append (entry_text Second d mark) (entries_text Second d marks))
 
 shape_short : (shape : Shape) → IsShape shape → length (shape_text shape) ≤ 100
 shape_short shape h =
     let numbers : List ℕ = shape.q ∷ shape.m ∷ shape.s ∷ shape.t ∷ [] in
-    let q : shape.q ≤ 9 = (order-bounds shape.q h.order).1 in
-    let m : shape.m ≤ 10 = indexes_fit shape h in
+    let q = (order-bounds shape.q h.order).1 in
+    let m = indexes_fit shape h in
     let all = spaced_short 4 numbers (omega arith) (
-      (omega (arith, q), omega (arith, q)),
+      (omega arith, omega arith),
       (
-        (omega (arith, m), omega (arith, m)),
+        (omega arith, omega arith),
         (
-          (omega (arith, h.factors), omega (arith, h.factors)),
-          ((omega (arith, h.block_factors), omega (arith, h.block_factors)), tt),
+          (omega arith, omega arith),
+          ((omega arith, omega arith), tt),
         ),
       ),
     ) in
     let count : length numbers ≡ 4 = omega arith in
-    let bound : length numbers * (4 + 1) ≡ 20 = ap (λ (n : ℕ). n * (4 + 1)) count in
+    let bound : length numbers * (4 + 1) ≡ 20 = cc in
     omega (
       arith,
-      all,
-      bound,
       length-append (codes "size") (spaced numbers ++ codes "\n"),
       length-append
           (spaced numbers) (codes "\n"),
@@ -184,17 +173,16 @@ effects_short s effects few h count =
     (each-weaker (λ n. (0 < n) × (n < 2 ^ s)) (λ n. (n < 10 ^ 19) × (n < 2 ^ 128)) (numbers_of effects)
     (λ n own. (omega (arith, own.1, top, low), omega (arith, own.1, top)))
     (recursion_from_All (λ n. (0 < n) × (n < 2 ^ s)) (numbers_of effects) h.each)) in
-    let long = length-map effects (λ (e : Effect). e.0) in
-    omega (arith, all, long, count)
+    let long = length-map effects (λ e. e.0) in
+    omega arith
 
 demands_short : (shape : Shape) (demands : Demands) → shape.s ≤ MOST_FACTORS
     → CanBeAsked (dimensions_of shape) (requirement_of demands) → AreFew demands
     → length (demands_text demands) ≤ 4100000
 demands_short shape (Resolution r) small h few =
-    let own = short 4 r (omega arith) (omega (arith, h.1)) (omega (arith, h.1)) in
+    let own = short 4 r (omega arith) (omega arith) (omega arith) in
     omega (
       arith,
-      own,
       length-append (codes "resolution") (spaced (r ∷ []) ++ codes "\n"),
       length-append
           (spaced (r ∷ [])) (codes "\n"),
@@ -204,14 +192,13 @@ demands_short shape (Resolution r) small h few =
 demands_short shape (Effects estimate others) small h few =
     let mine = effects_short shape.s estimate small h.estimated few.0 in
     let theirs = effects_short shape.s others small h.others few.1 in
-    let e : List ℕ = spaced (numbers_of estimate) in
-    let o : List ℕ = spaced (numbers_of others) in
+    let e = spaced (numbers_of estimate) in
+    let o = spaced (numbers_of others) in
     omega (
       arith,
-      mine,
-      theirs,
       length-append (codes "effects") (e ++ (codes " /" ++ (o ++ codes "\n"))),
-      length-append e (codes " /" ++ (o ++ codes "\n")),
+      length-append e
+          (codes " /" ++ (o ++ codes "\n")),
       length-append (codes " /") (o ++ codes "\n"),
       length-append o (codes "\n"),
     )
@@ -226,9 +213,6 @@ beat_short s least (Some pattern) small h =
     (λ n low. (omega (arith, low, top), omega (arith, low))) (recursion_from_All (λ a. a < 2 ^ 127) pattern h.2)) in
     omega (
       arith,
-      all,
-      h.1,
-      small,
       length-append (codes "pattern") (spaced pattern ++ codes "\n"),
       length-append
           (spaced pattern) (codes "\n"),
@@ -237,33 +221,30 @@ beat_short s least (Some pattern) small h =
 -- a book of at most 5,000,000 nodes is within the limit
 pub book_short : (book : Book) → IsValidBook book → length book.marks ≤ 5000000 → length (book_text book) ≤ 268435456
 book_short book valid few =
-    let shape : Shape = book.head.question.shape in
-    let own : IsShape shape = valid.question.shaped in
+    let shape = book.head.question.shape in
+    let own = valid.question.shaped in
     let bounds = order-bounds shape.q own.order in
     let rows = rows_fit shape own in
-    let words = words_fit shape own (shape.s + shape.t) (omega arith) in
     let first = shape_short shape own in
     let second = demands_short shape book.head.question.demands own.factors valid.question.asked valid.few_effects in
     let third = beat_short shape.s book.head.question.least book.head.beat own.factors valid.beat in
     let rest =
-    entries_short (dimensions_of shape) (omega (arith, bounds.0)) bounds.1 (omega (arith, rows)) own.runs words _
+    entries_short (dimensions_of shape) (omega arith) bounds.1 (omega arith) own.runs
+    (words_fit shape own (shape.s + shape.t) (omega arith)) _
     book.marks
     (recursion_from_All _ book.marks valid.marks) in
-    let s : List ℕ = shape_text shape in
-    let d : List ℕ = demands_text book.head.question.demands in
-    let b : List ℕ = beat_text book.head.beat in
-    let e : List ℕ = entries_text Second (dimensions_of shape) book.marks in
+    let s = shape_text shape in
+    let d = demands_text book.head.question.demands in
+    let b = beat_text book.head.beat in
+    let e = entries_text Second (dimensions_of shape) book.marks in
     omega (
       arith,
-      few,
-      first,
-      second,
-      third,
-      rest,
       length-append (codes "factex-book 2") (codes "\n" ++ (s ++ (d ++ (b ++ (e ++ codes "END\n"))))),
       length-append (codes "\n") (s ++ (d ++ (b ++ (e ++ codes "END\n")))),
-      length-append s (d ++ (b ++ (e ++ codes "END\n"))),
+      length-append s
+          (d ++ (b ++ (e ++ codes "END\n"))),
       length-append d (b ++ (e ++ codes "END\n")),
-      length-append b (e ++ codes "END\n"),
+      length-append b
+          (e ++ codes "END\n"),
       length-append e (codes "END\n"),
     )

@@ -1,9 +1,8 @@
 -- The book of each finished question that has one is among the files of the step, and so those behind its claims are.
-use Rattle.std.proofs.Common.{ℕ, ◌≡◌, ◌+◌, ◌||◌, not, Bool, true, false, zero, suc, List, [], ◌∷◌, ◌++◌, map, Option}
-use Rattle.std.proofs.Common.{Some, None, is_some, refl, sym, ap, ◌∙◌, subst, arith, inl, inr}
-use Rattle.std.specs.Prelude.{find, slice_get, if◌then◌else◌}
+use Rattle.std.proofs.Common.{ℕ, ◌≡◌, ◌+◌, ◌||◌, not, Bool, true, false, zero, suc, List, [], ◌∷◌, ◌++◌, Option}
+use Rattle.std.proofs.Common.{Some, None, is_some, refl, ap, ◌∙◌, subst, arith, inl, inr}
+use Rattle.std.specs.Prelude.{slice_get, if◌then◌else◌}
 use Rattle.std.specs.List.{Contains}
-use Rattle.std.specs.Option.{option_map}
 use Rattle.std.proofs.lemmas.Bool.{cond-true, or_right}
 use Rattle.std.proofs.lemmas.List.{map-append}
 use Rattle.std.proofs.lemmas.List.Elements.{All-get_or, Contains-append_left, Contains-append_right, Contains-get_or}
@@ -12,17 +11,15 @@ use Rattle.fx_designs.specs.Problems.{Dimensions, Problem, Requirement}
 use Rattle.fx_designs.specs.Answers.{answer}
 use Rattle.fx_designs.specs.Outcomes.{Design}
 use Rattle.fx_designs.specs.Patterns.{pattern_of}
-use Rattle.fx_base.specs.Acts.{Event, WholeFile}
-use Rattle.fx_reduction.specs.Strengths.{with_block}
-use Rattle.fx_vectors.specs.Question.{requirement_of}
+use Rattle.fx_base.specs.Acts.{WholeFile}
 use Rattle.fx_vectors.specs.declared.book.NamedBook.{NamedBook}
 use Rattle.fx_statements.specs.Steps.{Meaning}
 use Rattle.fx_statements.specs.Questions.{Turn, asked, conclusion_by, conclusion_of, cut_short, last_of, left_at}
-use Rattle.fx_statements.specs.Questions.{outcome_of, passes, questions_of, reached_at, turns, Found}
+use Rattle.fx_statements.specs.Questions.{outcome_of, questions_of, reached_at, Found}
 use Rattle.fx_statements.proofs.Concluded.{none-of}
-use Rattle.fx_book.specs.QuestionBooks.{beat_of, book_for, demands_for, has_book}
+use Rattle.fx_book.specs.QuestionBooks.{beat_of, book_for, has_book}
 use Rattle.fx_book.specs.Writing.{book_text}
-use Rattle.fx_answer.specs.Books.{book_at, books_from, books_of, finished, finished_before}
+use Rattle.fx_answer.specs.Books.{book_at, books_from, finished, finished_before}
 use Rattle.fx_answer.specs.ValidSteps.{IsValidStep}
 use Rattle.fx_answer.proofs.Best.{IsAsked, highest_asked, least_asked, more_blocks_asked, next_in_blocks_asked}
 use Rattle.fx_answer.proofs.Best.{smaller_asked}
@@ -45,25 +42,19 @@ posed d wanted least = record { dimensions = d; requirement = wanted; least = le
 -- the book of a question among those of many, which are numbered from n on
 among : (number n k : ℕ) (ps : List Problem) (p : Problem) → slice_get ps k ≡ Some p → has_book p ≡ true
     → Contains (book_files number (books_from n ps)) (book_file number (named (n + k) p))
-among number n k [] p e has = absurd (cc e)
+among number n k [] p e has = cc e
 among number n zero (q ∷ ps) p e has =
     let same : q ≡ p = cc e in
-    let own : book_at n q ≡ named n q ∷ [] =
-    cond-true (has_book q) (named n q ∷ []) [] (ap has_book same ∙ has) in
-    let rest : List Event = book_files number (books_from (n + 1) ps) in
+    let rest = book_files number (books_from (n + 1) ps) in
     let files : book_files number (books_from n (q ∷ ps)) ≡ book_file number (named n q) ∷ rest =
-    ap (λ l. map (book_file number) (l ++ books_from (n + 1) ps)) own in
+    cc (cond-true _ (named n q ∷ []) [] (ap has_book same ∙ has)) in
     let here : n ≡ n + zero = omega arith in
-    subst (λ l. Contains l (book_file number (named (n + zero) p))) (sym files)
-    (subst (λ k. Contains (book_file number (named n q) ∷ rest) (book_file number (named k p))) here
+    rw files (subst (λ k. Contains (book_file number (named n q) ∷ rest) (book_file number (named k p))) here
     (subst (λ p. Contains (book_file number (named n q) ∷ rest) (book_file number (named n p))) same
     (Contains-get_or (book_file number (named n q) ∷ rest) 0 (book_file number (named n q)) (omega arith))))
 among number n (suc k) (q ∷ ps) p e has =
     let next : n + 1 + k ≡ n + suc k = omega arith in
-    let files : book_files number (books_from n (q ∷ ps))
-    ≡ book_files number (book_at n q) ++ book_files number (books_from (n + 1) ps) =
-    map-append (book_file number) (book_at n q) (books_from (n + 1) ps) in
-    subst (λ l. Contains l (book_file number (named (n + suc k) p))) (sym files)
+    rw (map-append (book_file number) (book_at n q) (books_from (n + 1) ps))
     (subst (λ i. Contains (book_files number (book_at n q) ++ book_files number (books_from (n + 1) ps))
     (book_file number (named i p))) next
     (Contains-append_right (book_files number (book_at n q)) _ _ (among number (n + 1) k ps p e has)))
@@ -74,11 +65,9 @@ module _ (seed number : ℕ) (earlier : List AskedView) (step : Meaning) where
 
   pub booked : HasABookForEach seed number earlier step
   booked k p at has =
-      let own : Contains (book_files number (books_of step)) (book_file number (named (k + 1) p)) =
-      subst (λ i. Contains (book_files number (books_of step)) (book_file number (named i p)))
-      (let z : 1 + k ≡ k + 1 = omega arith in z)
-      (among number 1 k (finished (questions_of step) step.settings.budget) p at has) in
-      Contains-append_left _ _ _ (Contains-append_left (book_files number (books_of step)) _ _ own)
+      let own =
+      rw (let z : 1 + k ≡ k + 1 = omega arith in z) at (among number 1 k _ p at has) in
+      Contains-append_left _ _ _ (Contains-append_left _ _ _ own)
 
   -- where the budget does not end, each question that is asked is finished
   cut : (p : Problem) (left : Option Found) (reached budget : ℕ)
@@ -98,7 +87,7 @@ module _ (seed number : ℕ) (earlier : List AskedView) (step : Meaning) where
       → finished (questions_of step) step.settings.budget ≡ ps
   unfolding conclusion_of finished
   all_finished below =
-      by_end (last_of (questions_of step).first ps) (find (passes step.settings.budget) (turns [] ps)) below
+      by_end (last_of (questions_of step).first ps) _ below
 
   asked_booked : (status_of (outcome_of step).ending ≡ 2 → ⊥) → (k : ℕ) (p : Problem) → slice_get ps k ≡ Some p
       → has_book p ≡ true
@@ -112,11 +101,11 @@ module _ (seed number : ℕ) (earlier : List AskedView) (step : Meaning) where
   pub none_booked : (step_output seed number earlier step).status ≡ 1 → HasABookForEachAsked seed number earlier step
   none_booked one k p at =
       let none = none_at_one (outcome_of step).ending one in
-      let all = none-of (questions_of step) step.settings.budget none.0 none.1 in
       let own : answer p ≡ None =
-      subst (λ p. answer p ≡ None) (get_or_from_slice_get ps k p p at)
-      (All-get_or (λ p. answer p ≡ None) ps k p (slice_get_within ps k p at) all) in
-      asked_booked (λ two. omega (arith, one, two)) k p at (has_unanswered p own)
+      rw (← (get_or_from_slice_get ps k p p at))
+      (All-get_or (λ p. answer p ≡ None) ps k p (slice_get_within ps k p at)
+      (none-of (questions_of step) step.settings.budget none.0 none.1)) in
+      asked_booked (λ two. omega arith) k p at (has_unanswered p own)
 
   -- the book of a question that is behind a claim
   module _ (d : Dimensions) (wanted : Requirement) (own : Option (List ℕ)) (q : IsAsked step d wanted own)
@@ -128,11 +117,7 @@ module _ (seed number : ℕ) (earlier : List AskedView) (step : Meaning) where
       book = book_for q.question;
       among = asked_booked below q.place q.question q.asked_at has;
       about =
-          ap (λ d. posed d (requirement_of (demands_for q.question.requirement)) (is_some (beat_of q.question)))
-          q.dimensions
-          ∙ ap (λ wanted. posed d wanted (is_some (beat_of q.question)))
-          (requirement_back q.question.requirement ∙ q.requirement)
-          ∙ ap (λ beat. posed d wanted (is_some beat)) is;
+          cc (requirement_back q.question.requirement);
       pattern = is;
     }
 
@@ -142,13 +127,12 @@ module _ (seed number : ℕ) (earlier : List AskedView) (step : Meaning) where
 
   no_pattern : (p : Problem) → answer p ≡ None → beat_of p ≡ None
   no_pattern p none =
-      ap (λ o. if p.least then option_map (pattern_of p.dimensions) o else None) none ∙ one_way p.least
+      cc (one_way p.least)
 
   with_pattern : (p : Problem) (rows : List ℕ) → p.least ≡ true → answer p ≡ Some rows
       → beat_of p ≡ Some (pattern_of p.dimensions rows)
   with_pattern p rows least is =
-      ap (λ o. if p.least then option_map (pattern_of p.dimensions) o else None) is
-      ∙ cond-true p.least (Some (pattern_of p.dimensions rows)) None least
+      cc (cond-true p.least (Some (pattern_of p.dimensions rows)) None least)
 
   unanswered_book : (d : Dimensions) (wanted : Requirement) → IsAsked step d wanted None
       → (status_of (outcome_of step).ending ≡ 2 → ⊥)
@@ -160,7 +144,7 @@ module _ (seed number : ℕ) (earlier : List AskedView) (step : Meaning) where
   -- a design is no ended budget
   design_below : (rows : List ℕ) (count : ℕ) → (outcome_of step).ending ≡ Design rows count
       → status_of (outcome_of step).ending ≡ 2 → ⊥
-  design_below rows count e two = omega (arith, two, ap status_of e)
+  design_below rows count e two = omega (arith, ap status_of e)
 
   module _ (valid : IsValidStep step) where
     abbrev d : Dimensions
@@ -181,7 +165,7 @@ module _ (seed number : ℕ) (earlier : List AskedView) (step : Meaning) where
     pub least_book : LeastPatternHasBook seed number earlier step
     least_book rows count least e =
         let q = least_asked step valid rows count least e in
-        let own : q.question.least ≡ true = q.least ∙ least in
+        let own = q.least ∙ least in
         has_book_of d step.requirement (Some rows) q (design_below rows count e) (Some (pattern_of d rows))
         (with_pattern q.question rows own q.answer_is ∙ ap (λ d. Some (pattern_of d rows)) q.dimensions)
         (ap (λ b. b || not (is_some (answer q.question))) own)
@@ -193,5 +177,5 @@ module _ (seed number : ℕ) (earlier : List AskedView) (step : Meaning) where
 
     pub block_book : MostBlocksHasBook seed number earlier step
     block_book rows count most e =
-        unanswered_book (with_block d) step.requirement (more_blocks_asked step valid rows count most e)
+        unanswered_book _ step.requirement (more_blocks_asked step valid rows count most e)
         (design_below rows count e)

@@ -1,5 +1,5 @@
 -- The books of a catalogue are read from their texts as they are, and are accepted.
-use Rattle.std.proofs.Common.{ℕ, ◌≡◌, ◌<◌, ◌≤◌, ◌-◌, ◌+◌, List, length, Option, Some, None, All, refl, sym, subst}
+use Rattle.std.proofs.Common.{ℕ, ◌≡◌, ◌≤◌, ◌-◌, ◌+◌, List, length, Option, Some, None, All, refl, sym, subst}
 use Rattle.std.proofs.Common.{arith, inl, inr}
 use Rattle.std.specs.Prelude.{nat_lt}
 use Rattle.std.proofs.lemmas.Bool.{cases_Bool, cond-true, cond-false, ltb-false}
@@ -10,7 +10,6 @@ use Rattle.fx_vectors.specs.declared.shape.Shape.{Shape}
 use Rattle.fx_vectors.specs.Shape.{IsShape}
 use Rattle.fx_catalogue.specs.Catalogues.{Entry, entries, shape_at}
 use Rattle.fx_catalogue.specs.Lines.{line_by, line_of, problem_at}
-use Rattle.fx_catalogue.specs.declared.line.Line.{Line}
 use Rattle.fx_catalogue.specs.declared.line.Line.TheVariants.{Budget}
 use Rattle.fx_catalogue.proofs.Claimed.{head-by-answer}
 use Rattle.fx_program.specs.CommandLine.{IsCatalogue}
@@ -32,34 +31,32 @@ module _ (shape : Shape) (shaped : IsShape shape) (free : shape.t ≡ 0) where
       → answer (problem_at shape) ≡ found
       → HasAcceptedBook shape (line_by shape found)
   by_answer None few is = record {
-    is_accepted = accepted_book (problem_at shape) (may, few) shape.s refl;
+    is_accepted = accepted_book _ (may, few) shape.s refl;
     head_is = head-by-answer shape None is;
   }
   by_answer (Some rows) few is = record {
-    is_accepted = accepted_book (problem_at shape) (may, few) shape.s refl;
-    head_is = head-by-answer shape (Some rows) is;
+    is_accepted = accepted_book _ (may, few) shape.s refl;
+    head_is = head-by-answer shape _ is;
   }
 
   line_accepted : (budget : ℕ) → budget ≤ 5000000 → HasAcceptedBook shape (line_of shape budget)
   unfolding line_of
   line_accepted budget few =
-      let count : ℕ = length (nodes (problem_at shape)) in
-      let own : Line = line_by shape (answer (problem_at shape)) in
+      let count = length (nodes (problem_at shape)) in
+      let own = line_by shape (answer (problem_at shape)) in
       elim (cases_Bool (nat_lt budget count)) [
-        | inl more ↦ subst (HasAcceptedBook shape) (sym (cond-true (nat_lt budget count) Budget own more)) tt
+        | inl more ↦ subst (HasAcceptedBook shape) (sym (cond-true _ Budget own more)) tt
         | inr inside ↦
-            subst (HasAcceptedBook shape) (sym (cond-false (nat_lt budget count) Budget own inside))
+            subst (HasAcceptedBook shape) (sym (cond-false _ Budget own inside))
             (by_answer (answer (problem_at shape))
-            (let within : count ≤ budget = ltb-false budget count inside in omega (arith, within, few)) refl)
+            (let within = ltb-false budget count inside in omega arith) refl)
       ]
 
 pub catalogue_accepted : (q m most budget : ℕ) → IsCatalogue q m most budget
     → All (λ (e : Entry). HasAcceptedBook (shape_at q m e.factors) e.line) (entries q m most budget)
 unfolding entries
 catalogue_accepted q m most budget h =
-    All-from_recursion _ (entries q m most budget)
-    (each_line q m budget (λ (e : Entry). HasAcceptedBook (shape_at q m e.factors) e.line) (most - m) (m + 1)
+    All-from_recursion _ _
+    (each_line q m budget (λ e. HasAcceptedBook (shape_at q m e.factors) e.line) (most - m) (m + 1)
     (λ x from upto.
-    let more : m < x = omega (arith, from) in
-    let low : x ≤ most = omega (arith, upto, h.dependent) in
-    line_accepted (shape_at q m x) (line_shape h x more low) refl budget h.budget.1))
+    line_accepted _ (line_shape h x (omega arith) (omega arith)) refl budget h.budget.1))

@@ -35,10 +35,10 @@ module _ (step : Meaning) (some : 1 ≤ length step.factors) where
   }
 
   of_step : (n : ℕ) → IsOfStep (question_for step n)
-  of_step n = (refl, omega (arith, some))
+  of_step n = (refl, omega arith)
 
   all_of_step : AllByRecursion IsOfStep ps
-  all_of_step = each_asked IsOfStep (questions_of step) (of_step (lowest step step.settings.size))
+  all_of_step = each_asked IsOfStep _ (of_step (lowest step step.settings.size))
       (each-map IsOfStep (question_for step) _ (each-all (λ n. IsOfStep (question_for step n)) _ of_step))
 
   none_answer : (p : Problem) → IsOfStep p → HasNoDesign p → answer p ≡ None
@@ -53,14 +53,14 @@ module _ (step : Meaning) (some : 1 ≤ length step.factors) where
       → last_found earlier later ≡ earlier
   stays earlier [] none = refl
   stays earlier (p ∷ later) none =
-      ap (λ own. last_found (found_by earlier p own) later) none.0 ∙ stays earlier later none.1
+      cc (stays earlier later none.1)
 
   last_at : (before : Option Found) (earlier later : List Problem) (p : Problem) (rows : List ℕ) → answer p ≡ Some rows
       → AllByRecursion (λ p. answer p ≡ None) later
       → last_found before (earlier ++ p ∷ later) ≡ Some (record { question = p; rows = rows })
   last_at before [] later p rows is none =
-      ap (λ own. last_found (found_by before p own) later) is ∙ stays (Some (record { question = p; rows = rows }))
-      later none
+      cc (stays (Some (record { question = p; rows = rows }))
+      later none)
   last_at before (x ∷ earlier) later p rows is none =
       last_at (found_by before x (answer x)) earlier later p rows is none
 
@@ -71,7 +71,7 @@ module _ (step : Meaning) (some : 1 ≤ length step.factors) where
   module _ (few : nodes_of ps ≤ step.settings.budget) where
     module _ (p : Problem) (last : IsLastWithDesign ps p) where
       own : AllByRecursion IsOfStep (p ∷ last.later)
-      own = behind last.earlier (p ∷ last.later) (subst (AllByRecursion IsOfStep) last.among all_of_step)
+      own = behind last.earlier _ (subst (AllByRecursion IsOfStep) last.among all_of_step)
 
       design_is : (rows : List ℕ) → answer p ≡ Some rows
           → outcome_of step ≡ designed p rows
@@ -84,11 +84,11 @@ module _ (step : Meaning) (some : 1 ≤ length step.factors) where
 
       pub first_given : (rows : List ℕ) → step.settings.least ≡ false → IsFirstDesign p rows
           → outcome_of step ≡ designed p rows
-      first_given rows plain first = design_is rows (first-answer p (own.0.0 ∙ plain) own.0.1 rows first)
+      first_given rows plain first = design_is rows (first-answer p (cc own.0.0) own.0.1 rows first)
 
       pub first_least_given : (rows : List ℕ) → step.settings.least ≡ true → IsFirstOfLeastPattern p rows
           → outcome_of step ≡ designed p rows
-      first_least_given rows least first = design_is rows (first-least-answer p (own.0.0 ∙ least) own.0.1 rows first)
+      first_least_given rows least first = design_is rows (first-least-answer p (cc own.0.0) own.0.1 rows first)
 
     pub none_given : All HasNoDesign ps
         → outcome_of step
@@ -98,6 +98,8 @@ module _ (step : Meaning) (some : 1 ≤ length step.factors) where
           reached = 0;
         }
     none_given none =
-        within (questions_of step) step.settings.budget few
-        ∙ ap (λ found. concluded (last_of (questions_of step).first ps) found (nodes_of ps))
-        (stays None ps (none_answers ps all_of_step (recursion_from_All HasNoDesign ps none)))
+        cc (
+          within _ step.settings.budget few,
+          stays None ps
+              (none_answers ps all_of_step (recursion_from_All HasNoDesign ps none)),
+        )

@@ -16,19 +16,18 @@ pub first-least-answer : (p : Problem) → p.least ≡ true → 0 < p.dimensions
 unfolding answer designs
 first-least-answer p least some rows first =
     let E : List ℕ → Bool = λ rows. not p.least || is_of_least_pattern p rows in
-    let D : List ℕ → Bool = is_design p in
-    let is_least : E rows ≡ true =
-    or_right (not p.least) (is_of_least_pattern p rows)
+    let D = is_design p in
+    let is_least =
+    or_right (not p.least) _
     (all-kept D (λ other. not (is_less (pattern_of p.dimensions other) (pattern_of p.dimensions rows))) (prefixes p)
     (λ other h. not_from_false _ (first.least other h))) in
     find-filter D E (prefixes p)
-    ∙ first_found (λ x. D x && E x) (prefixes p) rows (lists-sorted _ _) (there p some rows first.design)
-    (and_from (D rows) (E rows) first.design is_least) (λ other passes earlier.
-    let parts = and_parts (D other) (E other) passes in
-    let greater = first.first other parts.0 earlier in
+    ∙ first_found (λ x. D x && E x) _ rows (lists-sorted _ _) (there p some rows first.design)
+    (and_from _ _ first.design is_least) (λ other passes earlier.
+    let parts = and_parts _ _ passes in
     let of_least : is_of_least_pattern p other ≡ true =
     elim (or_cases _ _ parts.1) [ inl out ↦ absurd (both_ways _ (not-true _ out) least) | inr l ↦ l ] in
     let not_less =
-    all-at D (λ x. not (is_less (pattern_of p.dimensions x) (pattern_of p.dimensions other))) (prefixes p) rows
+    all-at D _ _ rows
     (there p some rows first.design) first.design of_least in
-    both_ways _ (not-true _ not_less) greater)
+    both_ways _ (not-true _ not_less) (first.first other parts.0 earlier))

@@ -1,5 +1,5 @@
 -- The matrix of which a listing and plans are made is that of the outcome.
-use Rattle.std.proofs.Common.{ℕ, ◌≡◌, List, Some, None, refl, subst}
+use Rattle.std.proofs.Common.{ℕ, ◌≡◌, List, Some, None, refl}
 use Rattle.fx_designs.specs.Problems.{Dimensions}
 use Rattle.fx_designs.specs.Outcomes.{Ending, Design, NoDesign, BudgetEnded}
 use Rattle.fx_vectors.specs.Matrix.{MatrixView}
@@ -18,14 +18,14 @@ module _ (P : Dimensions → List ℕ → Type 0) (d : Dimensions) where
       → P (dimensions_of matrix.shape) matrix.rows
   of_rows rows matrix own e =
       (let same : matrix_of d rows ≡ matrix = cc e in
-      subst (λ (m : MatrixView). P (dimensions_of m.shape) m.rows) same own)
+      rw (← same) own)
 
   pub of_ending : (ending : Ending) (matrix : MatrixView) → ((rows : List ℕ) → rows_in ending ≡ Some rows → P d rows)
       → matrix_in d ending ≡ Some matrix
       → P (dimensions_of matrix.shape) matrix.rows
   of_ending (Design rows count) matrix each e = of_rows rows matrix (each rows refl) e
-  of_ending (NoDesign count) matrix each e = absurd (cc e)
-  of_ending (BudgetEnded None budget) matrix each e = absurd (cc e)
+  of_ending (NoDesign count) matrix each e = cc e
+  of_ending (BudgetEnded None budget) matrix each e = cc e
   of_ending (BudgetEnded (Some rows) budget) matrix each e = of_rows rows matrix (each rows refl) e
 
 pub matrix_as_asked : (step : Meaning) → IsValidStep step → HasMatrixAsAsked step

@@ -1,6 +1,6 @@
 -- The text of `make` in words, numbers and signs.
 use Rattle.std.proofs.Common.{ℕ, ◌≡◌, ◌<◌, ◌≤◌, ◌+◌, ◌%◌, zero, suc, Bool, true, false, not, ◌&&◌, List, [], ◌∷◌, ◌++◌}
-use Rattle.std.proofs.Common.{length, refl, sym, ap, ◌∙◌, subst, arith, Ok, inl, inr}
+use Rattle.std.proofs.Common.{length, refl, sym, subst, arith, Ok, inl, inr}
 use Rattle.std.specs.Fmt.{digits}
 use Rattle.std.specs.Prelude.{nat_lt, nat_le, codes, decimal, ◌==◌}
 use Rattle.std.specs.List.{AllByRecursion, list_all, flat_map, range_with_len}
@@ -9,7 +9,7 @@ use Rattle.fx_lexer.specs.Bytes.{is_white, is_digit, begins_word, is_word_byte, 
 use Rattle.fx_lexer.specs.Extents.{begins_comment, begins_remark}
 use Rattle.fx_lexer.specs.Lexing.{lexed}
 use Rattle.fx_lexer.specs.TextPieces.{Piece, white, comment, remark, word, whole, decimal as decimal_piece, quoted}
-use Rattle.fx_lexer.specs.TextPieces.{sign, spelling, HasForm, HasAllowedLength, AreFormed, starts_behind}
+use Rattle.fx_lexer.specs.TextPieces.{sign, HasForm, HasAllowedLength, AreFormed, starts_behind}
 use Rattle.fx_lexer.specs.TextPieces.{starts_behind_all, begins_with, begins_fraction, text_of, tokens_among}
 use Rattle.fx_lexer.proofs.TextOfPieces.{tokens_read}
 use Rattle.fx_program.specs.Making.{made_factors, made_levels, made_runs, made_text, step_text}
@@ -47,8 +47,8 @@ are_formed start (p ∷ pieces) rest =
 
 form_decided : (start : Bool) (p : Piece) (rest : List ℕ) → has_form start p rest ≡ true → HasForm start p rest
 form_decided start (white b) rest e = e
-form_decided start (comment inside) rest e = absurd (cc e)
-form_decided start (remark inside) rest e = absurd (cc e)
+form_decided start (comment inside) rest e = cc e
+form_decided start (remark inside) rest e = cc e
 form_decided start (word name) rest e =
     let a = and_parts _ _ e in
     let b = and_parts _ _ a.1 in
@@ -57,9 +57,9 @@ form_decided start (whole digits) rest e =
     let a = and_parts _ _ e in
     let b = and_parts _ _ a.1 in
     let c = and_parts _ _ b.1 in
-    (ltb-true 0 (length digits) a.0, b.0, not-true _ c.0, not-true _ c.1)
-form_decided start (decimal_piece digits fraction) rest e = absurd (cc e)
-form_decided start (quoted quote value) rest e = absurd (cc e)
+    (ltb-true 0 _ a.0, b.0, not-true _ c.0, not-true _ c.1)
+form_decided start (decimal_piece digits fraction) rest e = cc e
+form_decided start (quoted quote value) rest e = cc e
 form_decided start (sign b) rest e =
     let a = and_parts _ _ e in
     let c = and_parts _ _ a.1 in
@@ -69,9 +69,9 @@ short_decided : (p : Piece) → is_short p ≡ true → HasAllowedLength p
 short_decided (white b) e = tt
 short_decided (comment inside) e = tt
 short_decided (remark inside) e = tt
-short_decided (word name) e = leb-true (length name) 32 e
-short_decided (whole digits) e = leb-true (length digits) 38 e
-short_decided (decimal_piece digits fraction) e = absurd (cc e)
+short_decided (word name) e = leb-true _ 32 e
+short_decided (whole digits) e = leb-true _ 38 e
+short_decided (decimal_piece digits fraction) e = cc e
 short_decided (quoted quote value) e = tt
 short_decided (sign b) e = tt
 
@@ -81,7 +81,7 @@ formed_decided start [] rest e = tt
 formed_decided start (p ∷ pieces) rest e =
     let a = and_parts _ _ e in
     let b = and_parts _ _ a.1 in (
-      form_decided start p (text_of pieces rest) a.0,
+      form_decided start p _ a.0,
       short_decided p b.0,
       formed_decided (starts_behind start p) pieces
           rest b.1,
@@ -91,7 +91,7 @@ formed_decided start (p ∷ pieces) rest e =
 
 pub text-append : (ps qs : List Piece) (rest : List ℕ) → text_of (ps ++ qs) rest ≡ text_of ps (text_of qs rest)
 text-append [] qs rest = refl
-text-append (p ∷ ps) qs rest = ap (λ (l : List ℕ). spelling p ++ l) (text-append ps qs rest)
+text-append (p ∷ ps) qs rest = cc (text-append ps qs rest)
 
 formed-append : (start : Bool) (ps qs : List Piece) (rest : List ℕ) → AreFormed start ps (text_of qs rest)
     → AreFormed (starts_behind_all start ps) qs rest → AreFormed start (ps ++ qs) rest
@@ -217,7 +217,7 @@ same_kind k =
     let two : k % 12 % 2 ≡ k % 2 = omega arith in
     let four : k % 12 % 4 ≡ k % 4 = omega arith in
     let six : k % 12 % 6 ≡ k % 6 = omega arith in
-    rw (three, two, four, six) refl
+    rw (three, two, four, six)
 
 -- the pieces of the steps of these numbers
 abbrev pub pieces_of : List ℕ → List Piece
@@ -226,19 +226,21 @@ pieces_of ks = flat_map (λ (k : ℕ). step_pieces (k % 12)) ks
 pieces_text : (ks : List ℕ) → text_of (pieces_of ks) [] ≡ flat_map step_text ks
 pieces_text [] = refl
 pieces_text (k ∷ ks) =
-    text-append (step_pieces (k % 12)) (pieces_of ks) []
-    ∙ step_is (k % 12) (omega arith) (text_of (pieces_of ks) [])
-    ∙ ap (λ (l : List ℕ). l ++ text_of (pieces_of ks) []) (sym (same_kind k))
-    ∙ ap (λ (l : List ℕ). step_text k ++ l) (pieces_text ks)
+    cc (
+      text-append (step_pieces (k % 12)) (pieces_of ks) [],
+      step_is (k % 12) (omega arith)
+          (text_of (pieces_of ks) []),
+      same_kind k,
+      pieces_text ks,
+    )
 
 pieces_formed : (ks : List ℕ) → AreFormed true (pieces_of ks) []
 pieces_formed [] = tt
 pieces_formed (k ∷ ks) =
-    formed-append true (step_pieces (k % 12)) (pieces_of ks) []
+    formed-append true (step_pieces (k % 12)) _ []
     (formed_decided true (step_pieces (k % 12)) (text_of (pieces_of ks) [])
     (step_formed (k % 12) (omega arith) (text_of (pieces_of ks) [])))
-    (subst (λ (start : Bool). AreFormed start (pieces_of ks) []) (sym (step_ends (k % 12) (omega arith)))
-    (pieces_formed ks))
+    (rw (← (step_ends (k % 12) (omega arith))) at (pieces_formed ks))
 
 -- the tokens of the text
 pub made_tokens : (n : ℕ)
@@ -246,9 +248,9 @@ pub made_tokens : (n : ℕ)
     × (lexed (made_text n) ≡ Ok (tokens_among [] (pieces_of (range_with_len 1 n))))
 unfolding made_text
 made_tokens n =
-    let ks : List ℕ = range_with_len 1 n in
-    let joined : flat_map step_text ks ≡ text_of (pieces_of ks) [] = sym (pieces_text ks) in (
+    let ks = range_with_len 1 n in
+    let joined = sym (pieces_text ks) in (
       joined,
-      tokens_read (flat_map step_text ks) (tokens_among [] (pieces_of ks))
+      tokens_read _ _
           (record { pieces = pieces_of ks; joined = joined; formed = pieces_formed ks; tokens_are = refl }),
     )

@@ -1,5 +1,5 @@
 -- The steps of the text of `make`, each of which has a meaning.
-use Rattle.std.proofs.Common.{ℕ, ◌≡◌, ◌<◌, ◌≤◌, ◌%◌, suc, false, List, [], ◌∷◌, ◌++◌, length, refl, sym, ap, ◌∙◌, arith}
+use Rattle.std.proofs.Common.{ℕ, ◌≡◌, ◌<◌, ◌≤◌, ◌%◌, false, List, [], ◌∷◌, ◌++◌, length, refl, ap, ◌∙◌, arith}
 use Rattle.std.proofs.Common.{append_assoc, append-nil, None, Ok}
 use Rattle.std.specs.Fmt.{digits}
 use Rattle.std.specs.Prelude.{not, nat_lt}
@@ -8,7 +8,6 @@ use Rattle.std.proofs.lemmas.Bool.{false_from_ne_true, ltb-true}
 use Rattle.std.proofs.lemmas.List.FromFn.{length-range_with_len}
 use Rattle.fx_lexer.specs.declared.token.Token.{Token}
 use Rattle.fx_lexer.specs.TextPieces.{text_of, tokens_among}
-use Rattle.fx_language.specs.Keywords.{symbols_of}
 use Rattle.fx_language.specs.FirstRefusal.{first_refusal}
 use Rattle.fx_outputs.specs.declared.earlier.EarlierPlan.{EarlierPlan}
 use Rattle.fx_text.specs.Written.{Written, written}
@@ -19,7 +18,7 @@ use Rattle.fx_program.specs.Making.{HasSteps, made_text}
 use Rattle.fx_program.specs.Texts.{program_in}
 use Rattle.fx_program.proofs.Made.{made_text_short}
 use Rattle.fx_program_laws.proofs.MadePieces.{each_below, made_tokens, pieces_of, step_pieces}
-use Rattle.fx_program_laws.proofs.MadeSymbols.{all_symbols, none_refused, symbols, symbols_are, symbols_of_steps}
+use Rattle.fx_program_laws.proofs.MadeSymbols.{all_symbols, none_refused, symbols, symbols_are}
 use Rattle.fx_program_laws.proofs.MadeSymbols.{written_among, written_are, written-append}
 
 -- the statements of a step that follows the bytes before
@@ -91,22 +90,22 @@ one_step : (r : ℕ) → r < 12 → IsOneStep r
 unfolding digits
 one_step r low =
     each_below IsOneStep 0 12 (
-      λ b w e. rw e refl,
+      λ b w e. rw e,
       (
-        λ b w e. rw e refl,
+        λ b w e. rw e,
         (
-          λ b w e. rw e refl,
+          λ b w e. rw e,
           (
-            λ b w e. rw e refl,
+            λ b w e. rw e,
             (
-              λ b w e. rw e refl,
+              λ b w e. rw e,
               (
-                λ b w e. rw e refl,
+                λ b w e. rw e,
                 (
-                  λ b w e. rw e refl,
+                  λ b w e. rw e,
                   (
-                    λ b w e. rw e refl,
-                    (λ b w e. rw e refl, (λ b w e. rw e refl, (λ b w e. rw e refl, (λ b w e. rw e refl, tt)))),
+                    λ b w e. rw e,
+                    (λ b w e. rw e, (λ b w e. rw e, (λ b w e. rw e, (λ b w e. rw e, tt)))),
                   ),
                 ),
               ),
@@ -160,24 +159,26 @@ steps_at before (k ∷ ks) = statements_at (k % 12) before ∷ steps_at (before 
 begins_all : (ks : List ℕ) (before : List ℕ) → BeginStep (statements_of (written_among before (pieces_of ks)))
 begins_all [] before = refl
 begins_all (k ∷ ks) before =
-    let after : List ℕ = before ++ text_of (step_pieces (k % 12)) [] in
-    let whole =
-    ap statements_of (written-append (step_pieces (k % 12)) (pieces_of ks) before) ∙ cut_behind (k % 12)
-    (omega arith) before (written_among after (pieces_of ks)) in
-    ap (prefix_len (λ s. not (ends_step s))) whole ∙ begins (k % 12) (omega arith) before
-    (statements_of (written_among after (pieces_of ks)))
+    let after = before ++ text_of (step_pieces (k % 12)) [] in
+    cc (
+      (ap statements_of (written-append (step_pieces (k % 12)) (pieces_of ks) before) ∙ cut_behind (k % 12)
+          (omega arith) before (written_among after (pieces_of ks))),
+      begins (k % 12) (omega arith) before
+          (statements_of (written_among after (pieces_of ks))),
+    )
 
 steps_are : (ks : List ℕ) (before : List ℕ)
     → steps_of (statements_of (written_among before (pieces_of ks))) ≡ steps_at before ks
 steps_are [] before = refl
 steps_are (k ∷ ks) before =
-    let after : List ℕ = before ++ text_of (step_pieces (k % 12)) [] in
-    let whole =
-    ap statements_of (written-append (step_pieces (k % 12)) (pieces_of ks) before) ∙ cut_behind (k % 12)
-    (omega arith) before (written_among after (pieces_of ks)) in
-    ap steps_of whole
-    ∙ one_step (k % 12) (omega arith) before (statements_of (written_among after (pieces_of ks))) (begins_all ks after)
-    ∙ ap (λ (l : List (List (List Written))). statements_at (k % 12) before ∷ l) (steps_are ks after)
+    let after = before ++ text_of (step_pieces (k % 12)) [] in
+    cc (
+      (ap statements_of (written-append (step_pieces (k % 12)) (pieces_of ks) before) ∙ cut_behind (k % 12)
+          (omega arith) before (written_among after (pieces_of ks))),
+      one_step (k % 12) (omega arith) before
+          (statements_of (written_among after (pieces_of ks))) (begins_all ks after),
+      steps_are ks after,
+    )
 
 -- and all have meanings
 record AreMeant (ks : List ℕ) (before : List ℕ) (earlier : List EarlierPlan) (done : List Meaning) : Type 0 where
@@ -188,15 +189,15 @@ record AreMeant (ks : List ℕ) (before : List ℕ) (earlier : List EarlierPlan)
 meant : (ks : List ℕ) (before : List ℕ) (earlier : List EarlierPlan) (done : List Meaning)
     → AreMeant ks before earlier done
 meant [] before earlier done =
-    record { out = []; are = ap (λ (l : List Meaning). Ok l) (sym (append-nil done)); many = refl }
+    record { out = []; are = cc (append-nil done); many = refl }
 meant (k ∷ ks) before earlier done =
     let m = meaning_at (k % 12) (omega arith) earlier before in
     let later =
     meant ks (before ++ text_of (step_pieces (k % 12)) []) (plans_after earlier m.0) (done ++ m.0 ∷ []) in
     record {
       out = m.0 ∷ later.out;
-      are = rw m.1 (later.are ∙ ap (λ (l : List Meaning). Ok l) (append_assoc done (m.0 ∷ []) later.out));
-      many = ap suc later.many;
+      are = rw m.1 (cc (append_assoc done (m.0 ∷ []) later.out));
+      many = cc;
     }
 
 program_is : (n : ℕ) → n ≤ 100 → (tokens : List Token) → tokens ≡ tokens_among [] (pieces_of (range_with_len 1 n))
@@ -204,29 +205,27 @@ program_is : (n : ℕ) → n ≤ 100 → (tokens : List Token) → tokens ≡ to
     → (out : List Meaning) × (program_of (made_text n) tokens ≡ Ok out) × (length out ≡ n)
 unfolding program_of
 program_is n many tokens are text =
-    let ks : List ℕ = range_with_len 1 n in
-    let ws : List Written = written_among [] (pieces_of ks) in
+    let ks = range_with_len 1 n in
+    let ws = written_among [] (pieces_of ks) in
     let written_is : written (made_text n) tokens ≡ ws =
-    ap (λ (t : List Token). written (made_text n) t) are ∙ ap
-    (λ (l : List ℕ). written l (tokens_among [] (pieces_of ks))) text ∙ written_are (pieces_of ks) [] in
-    let symbols_is : symbols_of (made_text n) tokens ≡ symbols_of_steps ks =
-    symbols_are (made_text n) tokens ∙ ap symbols written_is ∙ all_symbols ks [] in
-    let long : length ks ≡ n = length-range_with_len 1 n in
-    let none : first_refusal (symbols_of (made_text n) tokens) ≡ None =
-    ap first_refusal symbols_is ∙ none_refused ks (omega (arith, long)) in
+    cc (written_are (pieces_of ks) []) in
+    let long = length-range_with_len 1 n in
     let m = meant ks [] [] [] in
     let all : accepted (made_text n) tokens None ≡ Ok m.out =
-    ap (λ (l : List Written). steps_behind [] [] (steps_of (statements_of l))) written_is ∙ ap (steps_behind [] [])
-    (steps_are ks []) ∙ m.are in
-    (m.out, ap (accepted (made_text n) tokens) none ∙ all, m.many ∙ long)
+    cc (steps_are ks []) in (
+      m.out,
+      cc
+          (ap first_refusal (symbols_are (made_text n) tokens ∙ ap symbols written_is ∙ all_symbols ks []) ∙ none_refused
+          ks (omega arith)),
+      cc,
+    )
 
 -- the text of n steps is a program of n steps
 pub made_program : (n : ℕ) → n ≤ 100 → HasSteps n (program_in (made_text n))
 unfolding program_in
 made_program n many =
     let t = made_tokens n in
-    let short = made_text_short n in
     let p = program_is n many (tokens_among [] (pieces_of (range_with_len 1 n))) refl t.0 in
     let within : nat_lt 1048576 (length (made_text n)) ≡ false =
-    false_from_ne_true _ (λ e. (let long = ltb-true 1048576 (length (made_text n)) e in omega arith)) in
+    false_from_ne_true _ (λ e. (omega (arith, made_text_short n, ltb-true 1048576 _ e))) in
     rw (within, t.1, p.1) p.2

@@ -1,8 +1,8 @@
 -- The symbols of the text of `make`: the grammar and the rules on repeated words refuse none of them.
 use Rattle.std.proofs.Common.{ℕ, ◌≡◌, ◌<◌, ◌≤◌, ◌+◌, ◌%◌, Bool, true, false, List, [], ◌∷◌, ◌++◌, map, length, refl}
-use Rattle.std.proofs.Common.{sym, ap, ap₂, ◌∙◌, arith, append_assoc, append-nil, Option, Some, None}
+use Rattle.std.proofs.Common.{ap, ◌∙◌, arith, append_assoc, append-nil, Option, Some, None}
 use Rattle.std.specs.Fmt.{digits}
-use Rattle.std.specs.Prelude.{slice_range, if◌then◌else◌, ◌==◌}
+use Rattle.std.specs.Prelude.{if◌then◌else◌, ◌==◌}
 use Rattle.std.proofs.lemmas.Bool.{both_ways, lt-leb}
 use Rattle.std.proofs.lemmas.List.{map-append}
 use Rattle.fx_lexer.specs.declared.token.Kind.{Kind}
@@ -51,34 +51,27 @@ module _ (before : List ℕ) (p : Piece) (rest : List ℕ) where
       ≡ lexeme_at (place_after before) o (spelling p) ++ ws
   first None tokens ws e = e
   first (Some k) tokens ws e =
-      ap₂ (λ (x : Written) (xs : List Written). x ∷ xs)
-      (ap (λ (bytes : List ℕ). record {
-        symbol = symbol_of k bytes;
-        text = bytes;
-        line = (place_after before).line;
-        column = (place_after before).column;
-      })
-      (middle_range before (spelling p) rest (length before + length (spelling p)) refl))
-      e
+      cc (middle_range before (spelling p) rest (length before + length (spelling p)) refl)
 
 pub written_are : (pieces : List Piece) (before : List ℕ)
     → written (before ++ text_of pieces []) (tokens_among before pieces) ≡ written_among before pieces
 written_are [] before = refl
 written_are (p ∷ pieces) before =
-    first before p (text_of pieces []) (kind_of p) (tokens_among (before ++ spelling p) pieces)
-    (written_among (before ++ spelling p) pieces)
+    first before p _ _ _
+    _
     (rw append_assoc at (written_are pieces (before ++ spelling p)))
 
 pub written-append : (ps qs : List Piece) (before : List ℕ)
     → written_among before (ps ++ qs) ≡ written_among before ps ++ written_among (before ++ text_of ps []) qs
-written-append [] qs before = ap (λ (l : List ℕ). written_among l qs) (sym (append-nil before))
+written-append [] qs before = cc (append-nil before)
 written-append (p ∷ ps) qs before =
-    ap (λ (l : List Written). lexeme_at (place_after before) (kind_of p) (spelling p) ++ l)
-    (written-append ps qs (before ++ spelling p) ∙ ap
-    (λ (l : List ℕ). written_among (before ++ spelling p) ps ++ written_among l qs)
-    (append_assoc before (spelling p) (text_of ps [])))
-    ∙ sym (append_assoc (lexeme_at (place_after before) (kind_of p) (spelling p))
-    (written_among (before ++ spelling p) ps) (written_among (before ++ text_of (p ∷ ps) []) qs))
+    cc (
+      written-append ps qs (before ++ spelling p),
+      append_assoc before (spelling p) (text_of ps []),
+      append_assoc
+          (lexeme_at (place_after before) (kind_of p) (spelling p))
+          (written_among (before ++ spelling p) ps) (written_among (before ++ text_of (p ∷ ps) []) qs),
+    )
 
 abbrev pub symbols : List Written → List Symbol
 symbols ws = map (λ (w : Written). w.symbol) ws
@@ -86,7 +79,7 @@ symbols ws = map (λ (w : Written). w.symbol) ws
 pub symbols_are : (text : List ℕ) (tokens : List Token) → symbols_of text tokens ≡ symbols (written text tokens)
 symbols_are text [] = refl
 symbols_are text (t ∷ tokens) =
-    ap (λ (l : List Symbol). symbol_of t.kind (slice_range text t.from t.upto) ∷ l) (symbols_are text tokens)
+    cc (symbols_are text tokens)
 
 -- ---- the symbols of a step
 
@@ -187,12 +180,12 @@ walked (s ∷ ss) rest seen i p after is e h =
     → (if b then walk (past_after p s) ss rest else None) ≡ Some after → repeated seen i ((s ∷ ss) ++ rest) ≡ None) [
       | true ↦ λ none go_on.
           (let rule : rule_at seen s (ss ++ rest)
-          ≡ None = rule_is seen (ss ++ rest) s ∙ ap (λ (q : Past). rule_code q s (begins_with Factex (ss ++ rest))) is ∙
+          ≡ None = rule_is seen (ss ++ rest) s ∙ ap (λ q. rule_code q s (begins_with Factex (ss ++ rest))) is ∙
           none_is _ none in
-          ap (λ (o : Option ℕ). or_later i o (repeated (s ∷ seen) (i + 1) (ss ++ rest))) rule
+          ap (λ o. or_later i o (repeated (s ∷ seen) (i + 1) (ss ++ rest))) rule
           ∙ walked ss rest (s ∷ seen) (i + 1) (past_after p s) after
-          (past_next s seen ∙ ap (λ (q : Past). past_after q s) is) go_on h)
-      | false ↦ λ none stop. absurd (cc stop)
+          (cc (past_next s seen)) go_on h)
+      | false ↦ λ none stop. cc stop
     ] in
     go (is_none (rule_code p s (begins_with Factex (ss ++ rest)))) refl e
 
@@ -222,8 +215,8 @@ at_front = record {
 
 walk_of_step : (least : Bool) (n : ℕ) (rest : List Symbol) → n < 100
     → walk (after_step n) (step_symbols least) rest ≡ Some (after_step (n + 1))
-walk_of_step true n rest low = rw (lt-leb 100 n low) refl
-walk_of_step false n rest low = rw (lt-leb 100 n low) refl
+walk_of_step true n rest low = rw (lt-leb 100 n low)
+walk_of_step false n rest low = rw (lt-leb 100 n low)
 
 walk_of_first : (least : Bool) (rest : List Symbol) → walk at_front (step_symbols least) rest ≡ Some (after_step 1)
 walk_of_first true rest = refl
@@ -233,24 +226,28 @@ rules_of_steps : (ks : List ℕ) (n : ℕ) → n + length ks ≤ 100 → (seen :
     → past_of seen ≡ after_step n → repeated seen i (symbols_of_steps ks) ≡ None
 rules_of_steps [] n many seen i is = refl
 rules_of_steps (k ∷ ks) n many seen i is =
-    walked (step_symbols (k % 12 % 4 == 0)) (symbols_of_steps ks) seen i (after_step n) (after_step (n + 1)) is
+    walked (step_symbols (k % 12 % 4 == 0)) _ seen i _ _ is
     (walk_of_step (k % 12 % 4 == 0) n (symbols_of_steps ks) (omega arith)) (rules_of_steps ks (n + 1) (omega arith))
 
 rules_of_all : (ks : List ℕ) → length ks ≤ 100 → repeated [] 0 (symbols_of_steps ks) ≡ None
 rules_of_all [] many = refl
 rules_of_all (k ∷ ks) many =
-    walked (step_symbols (k % 12 % 4 == 0)) (symbols_of_steps ks) [] 0 at_front (after_step 1) refl
+    walked (step_symbols (k % 12 % 4 == 0)) _ [] 0 at_front _ refl
     (walk_of_first (k % 12 % 4 == 0) (symbols_of_steps ks)) (rules_of_steps ks 1 (omega arith))
 
 pub none_refused : (ks : List ℕ) → length ks ≤ 100 → first_refusal (symbols_of_steps ks) ≡ None
-none_refused ks many = rw (grammar_of_all ks, rules_of_all ks many) refl
+none_refused ks many = rw (grammar_of_all ks, rules_of_all ks many)
 
 -- the symbols of the pieces
 pub all_symbols : (ks : List ℕ) (before : List ℕ) → symbols (written_among before (pieces_of ks)) ≡ symbols_of_steps ks
 all_symbols [] before = refl
 all_symbols (k ∷ ks) before =
-    ap symbols (written-append (step_pieces (k % 12)) (pieces_of ks) before)
-    ∙ map-append (λ (w : Written). w.symbol) (written_among before (step_pieces (k % 12)))
-    (written_among (before ++ text_of (step_pieces (k % 12)) []) (pieces_of ks))
-    ∙ ap₂ (λ (l r : List Symbol). l ++ r) (symbols_of_step (k % 12) (omega arith) before)
-    (all_symbols ks (before ++ text_of (step_pieces (k % 12)) []))
+    cc (
+      written-append (step_pieces (k % 12)) (pieces_of ks) before,
+      map-append (λ w. w.symbol)
+          (written_among before (step_pieces (k % 12)))
+          (written_among (before ++ text_of (step_pieces (k % 12)) []) (pieces_of ks)),
+      symbols_of_step (k % 12) (omega arith)
+          before,
+      all_symbols ks (before ++ text_of (step_pieces (k % 12)) []),
+    )

@@ -1,7 +1,7 @@
 -- Each fault of a text has its message and its place.
-use Rattle.std.proofs.Common.{◌≡◌, ℕ, zero, suc, ◌≤◌, Bool, true, false, ◌&&◌, List, [], length, Result, Ok, Err, refl}
-use Rattle.std.proofs.Common.{subst, arith}
-use Rattle.std.specs.Prelude.{IfErr, nat_le, nat_lt, if◌then◌else◌}
+use Rattle.std.proofs.Common.{◌≡◌, ℕ, zero, suc, ◌≤◌, Bool, true, false, ◌&&◌, List, [], Result, Ok, Err, refl}
+use Rattle.std.proofs.Common.{arith}
+use Rattle.std.specs.Prelude.{IfErr, nat_le, if◌then◌else◌}
 use Rattle.std.proofs.lemmas.Bool.{and_parts, leb-true, leb-false}
 use Rattle.fx_lexer.specs.declared.token.Token.{Token}
 use Rattle.fx_lexer.specs.declared.token.LexFault.{LexFault}
@@ -13,7 +13,6 @@ use Rattle.fx_language.specs.Refusals.{is_rule}
 use Rattle.fx_text.specs.declared.refusal.Refusal.{Refusal}
 use Rattle.fx_text.specs.Refusals.{IsByRule}
 use Rattle.fx_statements.specs.Steps.{Meaning}
-use Rattle.fx_statements.specs.Programs.{program_of}
 use Rattle.fx_statements.proofs.Placed as placed
 use Rattle.fx_program.specs.Texts.{at_front, or_refused, program_by, program_in}
 use Rattle.fx_program.specs.Messages.{reasons, lexical_reasons, has_row, HasItsMessage}
@@ -25,25 +24,25 @@ all_rows table (suc n) = has_row table (suc n) && all_rows table n
 
 below : (table : List (ℕ × List ℕ)) (n code : ℕ) → all_rows table n ≡ true → 1 ≤ code → code ≤ n
     → has_row table code ≡ true
-below table zero code all from upto = absurd (omega (arith, from, upto))
-below table (suc n) code all from upto = by_test (nat_le code n) refl (λ within. below table n code parts.1 from within)
+below table zero code all from upto = absurd (omega arith)
+below table (suc n) code all from upto = by_test (nat_le code n) refl (below table n code parts.1 from)
   where
     parts : (has_row table (suc n) ≡ true) × (all_rows table n ≡ true)
-    parts = and_parts (has_row table (suc n)) (all_rows table n) all
+    parts = and_parts _ _ all
 
     last : nat_le code n ≡ false → suc n ≡ code
-    last e = omega (arith, upto, leb-false code n e)
+    last e = omega (arith, leb-false code n e)
 
     by_test : (b : Bool) → nat_le code n ≡ b → (code ≤ n → has_row table code ≡ true) → has_row table code ≡ true
     by_test true e earlier = earlier (leb-true code n e)
-    by_test false e earlier = subst (λ c. has_row table c ≡ true) (last e) parts.0
+    by_test false e earlier = rw (last e) at parts.0
 
 row_of : (code : ℕ) → is_rule code ≡ true → has_row reasons code ≡ true
-row_of code rule = let p = and_parts (nat_le 1 code) (nat_le code 36) rule in
+row_of code rule = let p = and_parts _ _ rule in
     below reasons 36 code refl (leb-true 1 code p.0) (leb-true code 36 p.1)
 
 lexical_row : (kind : ℕ) → is_lexical_rule kind ≡ true → has_row lexical_reasons kind ≡ true
-lexical_row kind rule = let p = and_parts (nat_le 1 kind) (nat_le kind 5) rule in
+lexical_row kind rule = let p = and_parts _ _ rule in
     below lexical_reasons 5 kind refl (leb-true 1 kind p.0) (leb-true kind 5 p.1)
 
 at_its_front : (text : List ℕ) → IsPlaceIn text 1 1
@@ -57,13 +56,13 @@ with_tokens text (Err refusal) h = (row_of refusal.code h.rule, h.place)
 lexically : (text : List ℕ) (r : Result (List Token) LexFault) → lexed text ≡ r
     → IfErr (program_by text r) (HasItsMessage text)
 lexically text (Ok tokens) e =
-    with_tokens text (program_of text tokens) (placed.refused text tokens (tokens_placed text tokens e))
+    with_tokens text _ (placed.refused text tokens (tokens_placed text tokens e))
 lexically text (Err fault) e = let h = fault_placed text fault e in (lexical_row fault.kind h.rule, h.place)
 
 pub each_fault : (text : List ℕ) → IfErr (program_in text) (HasItsMessage text)
 unfolding program_in
-each_fault text = by_test (nat_lt 1048576 (length text))
+each_fault text = by_test _
   where
     by_test : (b : Bool) → IfErr (if b then Err (at_front 25) else program_by text (lexed text)) (HasItsMessage text)
     by_test true = (refl, at_its_front text)
-    by_test false = lexically text (lexed text) refl
+    by_test false = lexically text _ refl

@@ -13,9 +13,9 @@ use Rattle.fx_program.specs.Tables.{AllHold, IsLine, base_at, is_nothing, HasNon
 
 none_claimed : (asked : AskedTable) (n : ℕ) (line : TableLine) → IsLine asked n line → is_nothing line ≡ true
     → HasNone asked n
-none_claimed asked n (Least rows rules key book) h e = absurd (cc e)
+none_claimed asked n (Least rows rules key book) h e = cc e
 none_claimed asked n (Nothing book) h e = h.holds.0.none
-none_claimed asked n (Open entries rows) h e = absurd (cc e)
+none_claimed asked n (Open entries rows) h e = cc e
 
 module _ (asked : AskedTable) (f : IsField asked.q) (n : ℕ) where
   none_above : (k : ℕ) → k ≤ n → HasNone asked k → HasNone asked n
@@ -33,13 +33,13 @@ module _ (asked : AskedTable) (f : IsField asked.q) (n : ℕ) where
       → k + suc (length (if b then [] else listed lines)) ≤ n + 1
       → HasNone asked n
   by_first line lines k h later true is some upto =
-      none_above k (omega (arith, upto)) (none_claimed asked k line h is)
-  by_first line lines k h later false is some upto = later some (omega (arith, upto))
+      none_above k (omega arith) (none_claimed asked k line h is)
+  by_first line lines k h later false is some upto = later some (omega arith)
 
   pub none_past : (lines : List TableLine) (k : ℕ) → AllHold asked k lines
       → list_any is_nothing (listed lines) ≡ true
       → k + length (listed lines) ≤ n + 1
       → HasNone asked n
-  none_past [] k h some upto = absurd (cc some)
+  none_past [] k h some upto = cc some
   none_past (line ∷ lines) k h some upto =
-      by_first line lines k h.0 (none_past lines (k + 1) h.1) (is_nothing line) refl some upto
+      by_first line lines k h.0 (none_past lines (k + 1) h.1) _ refl some upto

@@ -2,14 +2,14 @@
 use Rattle.std.proofs.Common.{ℕ, ◌≡◌, true, List, Some, sym, subst, inl, inr}
 use Rattle.std.proofs.lemmas.Bool.{and_parts}
 use Rattle.fx_designs.specs.Galois.{IsField}
-use Rattle.fx_designs.specs.Problems.{Dimensions, Problem, Requirement}
+use Rattle.fx_designs.specs.Problems.{Problem, Requirement}
 use Rattle.fx_designs.specs.Canonical.{is_canonical}
 use Rattle.fx_reduction.proofs.LeastPattern.{answer-design}
 use Rattle.fx_tree.proofs.RuleLevels.{combinations}
 use Rattle.fx_alias.proofs.RuleLines.{its_rule}
-use Rattle.fx_statements.specs.Questions.{outcome_of, questions_of}
+use Rattle.fx_statements.specs.Questions.{outcome_of}
 use Rattle.fx_statements.specs.Steps.{Meaning}
-use Rattle.fx_statements.proofs.Concluded.{IsQuestionOf, each-of_step}
+use Rattle.fx_statements.proofs.Concluded.{each-of_step}
 use Rattle.fx_answer.specs.StepClaims.{rows_in}
 use Rattle.fx_answer.specs.ValidSteps.{IsValidStep}
 use Rattle.fx_answer.proofs.Best.{field, what_it_asks}
@@ -28,11 +28,9 @@ pub canonical_listed : (step : Meaning) (rows : List ℕ) → rows_in (outcome_o
     → (wanted : Requirement) × (is_canonical (outcome_of step).dimensions wanted rows ≡ true)
 canonical_listed step rows e =
     let each = each-of_step step in
-    let own = left-of (IsQuestionOf step) (questions_of step) step.settings.budget rows each.0 each.1 e in
-    let wanted = own.question.requirement in (
-      wanted,
-      subst (λ (x : Dimensions). is_canonical x wanted rows ≡ true) (sym own.dimensions)
-          (canonical own.question rows own.left),
+    let own = left-of _ _ step.settings.budget rows each.0 each.1 e in (
+      own.question.requirement,
+      rw own.dimensions (canonical own.question rows own.left),
     )
 
 rules_give : (step : Meaning) → IsValidStep step → (rows : List ℕ) → rows_in (outcome_of step).ending ≡ Some rows
@@ -41,12 +39,10 @@ rules_give step valid rows e =
     let asked = what_it_asks step valid rows e in
     let d = (outcome_of step).dimensions in
     let listed = canonical_listed step rows e in
-    let wanted : Requirement = listed.0 in
-    let can : is_canonical d wanted rows ≡ true = listed.1 in
-    let f : IsField d.q = subst IsField (sym asked.allowed.levels) (field step valid) in
+    let f = subst IsField (sym asked.allowed.levels) (field step valid) in
     record {
-      rules = λ k low. its_rule d f wanted step.factors rows k can asked.whole (sym asked.allowed.factors) low;
-      factorial = λ levels h. combinations d f wanted rows levels can h;
+      rules = λ k low. its_rule d f listed.0 step.factors rows k listed.1 asked.whole (cc) low;
+      factorial = λ levels h. combinations d f listed.0 rows levels listed.1 h;
     }
 
 pub printed : (step : Meaning) → IsValidStep step → HasRulesThatGiveTheLevels step

@@ -2,7 +2,7 @@
 use Rattle.std.proofs.Common.{ℕ, ◌≡◌, ◌<◌, ◌≤◌, ◌+◌, ◌-◌, ◌*◌, ◌/◌, ◌^◌, ◌⊎◌, inl, inr, Bool, true, false, not, ◌&&◌}
 use Rattle.std.proofs.Common.{◌||◌, if◌then◌else◌, List, [], ◌∷◌, ◌++◌, take, length, Option, Some, None, is_some, All}
 use Rattle.std.proofs.Common.{IsTrue, refl, sym, ap, ◌∙◌, subst, arith, eqb}
-use Rattle.std.specs.Prelude.{count_by, filter, unwrap_or}
+use Rattle.std.specs.Prelude.{count_by, filter}
 use Rattle.std.specs.List.{AllByRecursion, range_with_len}
 use Rattle.std.specs.Option.{option_map}
 use Rattle.std.proofs.Math.Nat.{div-le_self, mul-pos}
@@ -13,12 +13,12 @@ use Rattle.std.proofs.lemmas.List.Elements.{All-from_recursion, All-filter, All-
 use Rattle.std.proofs.lemmas.List.Elements.{filter_passes}
 use Rattle.fx_base.proofs.Lists.{each-map, each-all, each-weaker, each-both}
 use Rattle.fx_designs.specs.Galois.{IsField, digits, number}
-use Rattle.fx_designs.specs.Vectors.{IsVector, last_nonzero, is_normal, zeros, weight, vectors_of}
+use Rattle.fx_designs.specs.Vectors.{last_nonzero, is_normal, zeros, weight, vectors_of}
 use Rattle.fx_designs.specs.Runs.{is_constant, points, runs_of}
 use Rattle.fx_designs.specs.Problems.{Dimensions, Problem, Requirement, AtResolution, ForEffects}
 use Rattle.fx_designs.specs.Demands.{is_allowed, is_forbidden_word, padded, runs}
 use Rattle.fx_designs.specs.Canonical.{is_canonical}
-use Rattle.fx_designs.specs.Answers.{answer, prefixes}
+use Rattle.fx_designs.specs.Answers.{prefixes}
 use Rattle.fx_designs.specs.Patterns.{constant_words, pattern_of}
 use Rattle.fx_designs.specs.Nodes.{Mark, Branch, Word, Worse, is_branch, is_node, last_row, mark_of, marks, nodes}
 use Rattle.fx_designs.specs.Nodes.{word_of}
@@ -29,14 +29,12 @@ use Rattle.fx_laws.proofs.Order.{nonempty}
 use Rattle.fx_laws.proofs.Ranks.{append-vector}
 use Rattle.fx_laws.proofs.Space.{zeros-vector}
 use Rattle.fx_reduction.proofs.ShortWords.{pattern-length}
-use Rattle.fx_vectors.specs.Effects.{numbers_of}
 use Rattle.fx_vectors.specs.Question.{CanBeAsked, is_resolution, requirement_of}
 use Rattle.fx_vectors.specs.Shape.{IsShape}
 use Rattle.fx_vectors.proofs.Limits.{words_fit}
 use Rattle.fx_demands.proofs.Choice.{chosen}
-use Rattle.fx_book.specs.Demands.{numbered_effects}
 use Rattle.fx_book.specs.Valid.{AreFew, IsBeat, IsEntry, IsValidBook}
-use Rattle.fx_checker.specs.Books.{AreInTurn, Claim, IsGood, children, flaw, turns_after}
+use Rattle.fx_checker.specs.Books.{AreInTurn, Claim, IsGood, flaw, turns_after}
 use Rattle.fx_checker.specs.Claims.{claim_of}
 use Rattle.fx_checker.specs.declared.verdict.Reason.TheVariants.{Beats, OtherRow}
 use Rattle.fx_checker.proofs.Existence.{word_exists}
@@ -47,8 +45,7 @@ use Rattle.fx_book.proofs.Accepted.{numbers-effects}
 pub requirement_back : (wanted : Requirement) → requirement_of (demands_for wanted) ≡ wanted
 requirement_back (AtResolution r) = refl
 requirement_back (ForEffects estimate besides) =
-    ap (λ l. ForEffects l (numbers_of (numbered_effects besides))) (numbers-effects estimate) ∙ ap (ForEffects estimate)
-    (numbers-effects besides)
+    cc (numbers-effects estimate, numbers-effects besides)
 
 -- a book has no pattern to beat, and its question no answer; or it has that of the least answer
 told : (p : Problem) (least : Bool) (own : Option (List ℕ)) → (least || not (is_some own)) ≡ true
@@ -58,22 +55,22 @@ told : (p : Problem) (least : Bool) (own : Option (List ℕ)) → (least || not 
 told p true None has = inl (refl, refl)
 told p true (Some rows) has = inr (rows, refl, refl, refl)
 told p false None has = inl (refl, refl)
-told p false (Some rows) has = absurd (cc has)
+told p false (Some rows) has = cc has
 
 -- a number with a nonzero entry is not 0
 some_number : (q : ℕ) → 0 < q → (u v : List ℕ) → 0 < last_nonzero u → 0 < number q (u ++ v)
-some_number q some [] v h = absurd (omega (arith, h))
+some_number q some [] v h = absurd (omega arith)
 some_number q some (a ∷ u) v h = by_last (eqb (last_nonzero u) 0) refl (some_number q some u v)
   where
     by_last : (b : Bool) → eqb (last_nonzero u) 0 ≡ b → (0 < last_nonzero u → 0 < number q (u ++ v))
         → 0 < a + q * number q (u ++ v)
-    by_last true e rest = let first : 0 < a =
-        subst (λ n. 0 < n) (cond-true (eqb (last_nonzero u) 0) a (last_nonzero u) e) h in omega (arith, first)
+    by_last true e rest = let first =
+        rw (cond-true _ a (last_nonzero u) e) at h in omega arith
     by_last false e rest =
-        let more : 0 < number q (u ++ v) =
-        rest (subst (λ n. 0 < n) (cond-false (eqb (last_nonzero u) 0) a (last_nonzero u) e) h) in
-        let product : 0 < q * number q (u ++ v) = mul-pos some more in
-        omega (arith, product)
+        let more =
+        rest (rw (cond-false _ a (last_nonzero u) e) at h) in
+        let product = mul-pos some more in
+        omega arith
 
 -- counts of words are small
 module _ (d : Dimensions) (f : IsField d.q) (small : (n : ℕ) → n ≤ d.s → d.q ^ n < 2 ^ 127) where
@@ -81,22 +78,20 @@ module _ (d : Dimensions) (f : IsField d.q) (small : (n : ℕ) → n ≤ d.s →
       → constant_words d.q d.m (vectors_of d.q d.m (take d.s rows)) k / (d.q - 1) < 2 ^ 127
   unfolding constant_words
   count_fits rows k =
-      let factors : List (List ℕ) = vectors_of d.q d.m (take d.s rows) in
+      let factors = vectors_of d.q d.m (take d.s rows) in
       let test : List ℕ → Bool = λ u. (eqb (weight u) k) && is_constant d.q u (runs_of d.q d.m factors) in
-      let count : ℕ = count_by test (points d.q (length factors)) in
-      let part = div-le_self count (d.q - 1) in
+      let part = div-le_self (count_by test (points d.q (length factors))) (d.q - 1) in
       let all = count_by-le-length test (points d.q (length factors)) in
       let long = length-points d.q (length factors) in
-      let short : length factors ≤ d.s =
-      omega (arith, length-map (take d.s rows) (digits d.q d.m), length-take d.s rows) in
-      let fits = small (length factors) short in
-      omega (arith, part, all, long, fits)
+      let fits =
+      small (length factors) (omega (arith, length-map (take d.s rows) (digits d.q d.m), length-take d.s rows)) in
+      omega arith
 
   pattern_fits : (rows : List ℕ) → AllByRecursion (λ a. a < 2 ^ 127) (pattern_of d rows)
   unfolding pattern_of
   pattern_fits rows =
       each-map (λ a. a < 2 ^ 127) (λ k. constant_words d.q d.m (vectors_of d.q d.m (take d.s rows)) k / (d.q - 1))
-      (range_with_len 1 d.s) (each-all _ (range_with_len 1 d.s) (count_fits rows))
+      _ (each-all _ (range_with_len 1 d.s) (count_fits rows))
 
 -- marks in turn have no flaw at some prefix
 HasNoFlaw : Claim → Mark → Type 0
@@ -119,12 +114,12 @@ module _ (p : Problem) (shaped : IsShape (shape_of p.dimensions)) (asked : CanBe
   f = is_order-field d.q shaped.order
 
   some : 0 < d.s + d.t
-  some = omega (arith, shaped.some_factors)
+  some = omega arith
 
   row_low : (c : List ℕ) → 0 < length c → is_canonical d p.requirement c ≡ true → last_row c < d.q ^ d.m
   row_low c more canonical =
       let own = (canonical_decides d f c p.requirement).0 canonical in
-      All-get_or (λ r. r < d.q ^ d.m) c (length c - 1) 0 (omega (arith, more)) own.below
+      All-get_or (λ r. r < d.q ^ d.m) c (length c - 1) 0 (omega arith) own.below
 
   word_low : (c : List ℕ) → is_canonical d p.requirement c ≡ true → is_allowed d p.requirement c ≡ false
       → (0 < word_of p c) × (word_of p c < d.q ^ (d.s + d.t))
@@ -133,21 +128,19 @@ module _ (p : Problem) (shaped : IsShape (shape_of p.dimensions)) (asked : CanBe
       let short : length c ≤ d.s + d.t = ((canonical_decides d f c p.requirement).0 canonical).len in
       let word = word_exists d f p.requirement c short asked out in
       let best = chosen d p.requirement c word.0 shaped.order word.1 in
-      let u : List ℕ = best.0 in
-      let j : ℕ = d.s + d.t - length u in
+      let j = d.s + d.t - length best.0 in
       let closes =
-      and_parts (is_normal u) (is_forbidden_word d p.requirement (padded d u) && is_constant d.q u (runs d c))
+      and_parts (is_normal best.0)
+      (is_forbidden_word d p.requirement (padded d best.0) && is_constant d.q best.0 (runs d c))
       best.3 in
-      let one : last_nonzero u ≡ 1 = eqb-true (last_nonzero u) 1 closes.0 in
-      let some_q : 0 < d.q = omega (arith, f.more_than_one) in
-      let long : length c + j ≡ d.s + d.t = omega (arith, best.1.len, short) in
-      let vector : IsVector d.q (d.s + d.t) (padded d u) =
-      subst (λ i. IsVector d.q i (u ++ zeros j)) long
-      (append-vector d.q (length c) j u (zeros j) best.1 (zeros-vector d.q j f)) in
-      let named : word_of p c ≡ number d.q (padded d u) =
-      ap (λ o. number d.q (unwrap_or o [])) word.1 ∙ ap (number d.q) best.2 in (
-        subst (λ n. 0 < n) (sym named) (some_number d.q some_q u (zeros j) (omega (arith, one))),
-        subst (λ n. n < d.q ^ (d.s + d.t)) (sym named) (number-below d.q (d.s + d.t) (padded d u) vector),
+      let one = eqb-true (last_nonzero best.0) 1 closes.0 in
+      let long : length c + j ≡ d.s + d.t = omega arith in
+      let vector =
+      rw long at (append-vector d.q _ j best.0 _ best.1 (zeros-vector d.q j f)) in
+      let named : word_of p c ≡ number d.q (padded d best.0) =
+      cc in (
+        rw (← named) at (some_number d.q (omega (arith, f.more_than_one)) best.0 (zeros j) (omega arith)),
+        rw named (number-below d.q _ _ vector),
       )
 
   entry : (c : List ℕ) → 0 < length c → is_canonical d p.requirement c ≡ true → IsEntry d true (mark_of p c)
@@ -155,15 +148,15 @@ module _ (p : Problem) (shaped : IsShape (shape_of p.dimensions)) (asked : CanBe
     | inl allowed ↦ elim (cases_Bool (is_branch p c)) [
       | inl branch ↦
           subst (IsEntry d true)
-          (sym (cond-true (is_allowed d p.requirement c) _ _ allowed ∙ cond-true (is_branch p c) (Branch (last_row c))
+          (sym (cond-true _ _ _ allowed ∙ cond-true _ (Branch (last_row c))
           (Worse (last_row c)) branch)) (row_low c more canonical)
       | inr other ↦
           subst (IsEntry d true)
-          (sym (cond-true (is_allowed d p.requirement c) _ _ allowed ∙ cond-false (is_branch p c)
+          (sym (cond-true _ _ _ allowed ∙ cond-false _
           (Branch (last_row c)) (Worse (last_row c)) other)) (row_low c more canonical, refl)
     ]
     | inr out ↦
-        subst (IsEntry d true) (sym (cond-false (is_allowed d p.requirement c) _ (Word (last_row c) (word_of p c)) out))
+        subst (IsEntry d true) (sym (cond-false _ _ (Word (last_row c) (word_of p c)) out))
         (let word = word_low c canonical out in (row_low c more canonical, word.0, word.1))
   ]
 
@@ -171,33 +164,28 @@ module _ (p : Problem) (shaped : IsShape (shape_of p.dimensions)) (asked : CanBe
   unfolding marks nodes
   entries =
       let more : All (λ c. 0 < length c) (filter (is_node p) (prefixes p)) =
-      All-filter (is_node p) (λ c. 0 < length c) (prefixes p)
-      (All-from_recursion _ (prefixes p) (nonempty (d.q ^ d.m) (d.s + d.t))) in
-      let node : All (λ c. is_node p c ≡ true) (filter (is_node p) (prefixes p)) =
-      filter_passes (is_node p) (prefixes p) in
+      All-filter _ (λ c. 0 < length c) _
+      (All-from_recursion _ _ (nonempty (d.q ^ d.m) (d.s + d.t))) in
       let both =
       each-both (λ c. 0 < length c) (λ c. is_node p c ≡ true) (filter (is_node p) (prefixes p))
-      (recursion_from_All _ _ more) (recursion_from_All _ _ node) in
-      each-map (IsEntry d true) (mark_of p) (filter (is_node p) (prefixes p))
-      (each-weaker _ (λ c. IsEntry d true (mark_of p c)) (filter (is_node p) (prefixes p))
-      (λ c h. entry c h.0 (and_parts (is_canonical d p.requirement c) _ h.1).0) both)
+      (recursion_from_All _ _ more) (recursion_from_All _ _ (filter_passes (is_node p) (prefixes p))) in
+      each-map _ _ _
+      (each-weaker _ (λ c. IsEntry d true (mark_of p c)) _
+      (λ c h. entry c h.0 (and_parts _ _ h.1).0) both)
 
   -- what a book claims, and why it is so
   claimed : claim_of (head_for p) ≡ claim_over p (is_some (beat_of p)) (beat_of p)
-  claimed = ap
-      (λ wanted. record
-      { problem = record { dimensions = d; requirement = wanted; least = is_some (beat_of p) }; beat = beat_of p })
-      (requirement_back p.requirement)
+  claimed = cc (requirement_back p.requirement)
 
   beaten : (beat : Option (List ℕ)) → beat_of p ≡ beat → IsGood (claim_over p (is_some beat) beat) (marks p)
       → IsGood (claim_of (head_for p)) (marks p)
   beaten beat is good = subst (λ x. IsGood x (marks p)) (sym (claimed ∙ ap (λ b. claim_over p (is_some b) b) is)) good
 
   good : has_book p ≡ true → IsGood (claim_of (head_for p)) (marks p)
-  good has = elim (told p p.least (answer p) has) [
+  good has = elim (told p p.least _ has) [
     | inl none ↦ beaten None none.1 (none_good p shaped.order asked some false none.0)
     | inr least ↦
-        beaten (Some (pattern_of d least.0)) least.3 (some_good p shaped.order asked some true least.1 least.0 least.2)
+        beaten _ least.3 (some_good p shaped.order asked some true least.1 least.0 least.2)
   ]
 
   -- where there is no pattern to beat, no prefix is marked as worse
@@ -205,7 +193,7 @@ module _ (p : Problem) (shaped : IsShape (shape_of p.dimensions)) (asked : CanBe
   unfolding HasNoFlaw
   unbeaten (Branch row) h none = h
   unbeaten (Word row word) h none = h
-  unbeaten (Worse row) h none = absurd (by_row (eqb row (last_row none.0)) none.1)
+  unbeaten (Worse row) h none = absurd (by_row _ none.1)
     where
       by_row : (b : Bool) → (if b then Some Beats else Some OtherRow) ≡ None → ⊥
       by_row true e = cc e
@@ -213,29 +201,29 @@ module _ (p : Problem) (shaped : IsShape (shape_of p.dimensions)) (asked : CanBe
 
   of_beat : (beat : Option (List ℕ)) → IsGood (claim_over p (is_some beat) beat) (marks p)
       → AllByRecursion (IsEntry d (is_some beat)) (marks p)
-  of_beat None h = each-weaker _ (IsEntry d false) (marks p) (λ mark both. unbeaten mark both.0 both.1)
-      (each-both (IsEntry d true) (HasNoFlaw (claim_over p false None)) (marks p) entries
-      (none_flawed (claim_over p false None) (children p []) (marks p) h))
+  of_beat None h = each-weaker _ _ _ (λ mark both. unbeaten mark both.0 both.1)
+      (each-both _ _ _ entries
+      (none_flawed _ _ _ h))
   of_beat (Some pattern) h = entries
 
   beat_entries : has_book p ≡ true → AllByRecursion (IsEntry d (is_some (beat_of p))) (marks p)
-  beat_entries has = of_beat (beat_of p) (subst (λ x. IsGood x (marks p)) claimed (good has))
+  beat_entries has = of_beat _ (subst (λ x. IsGood x (marks p)) claimed (good has))
 
   beat_fits : has_book p ≡ true → IsBeat d.s (is_some (beat_of p)) (beat_of p)
-  beat_fits has = elim (told p p.least (answer p) has) [
-    | inl none ↦ subst (λ b. IsBeat d.s (is_some b) b) (sym none.1) refl
+  beat_fits has = elim (told p p.least _ has) [
+    | inl none ↦ rw none.1 refl
     | inr least ↦
-        subst (λ b. IsBeat d.s (is_some b) b) (sym least.3) (
+        rw least.3 (
           refl,
           pattern-length d least.0,
           All-from_recursion _ _
-              (pattern_fits d f (λ n short. words_fit (shape_of d) shaped n (omega (arith, short))) least.0),
+              (pattern_fits d f (λ n short. words_fit _ shaped n (omega arith)) least.0),
         )
   ]
 
   -- a least pattern is asked in the head only where it is asked of the question
   asks_least : IsTrue (is_some (beat_of p)) → IsTrue p.least
-  asks_least h = by_least p.least (answer p) h
+  asks_least h = by_least p.least _ h
     where
       by_least : (least : Bool) (own : Option (List ℕ))
           → IsTrue (is_some (if least then option_map (pattern_of d) own else None)) → IsTrue least
@@ -246,7 +234,7 @@ module _ (p : Problem) (shaped : IsShape (shape_of p.dimensions)) (asked : CanBe
       (few : AreFew (demands_for p.requirement)) (short : length (nodes p) ≤ 268435456) where
     marks_few : length (marks p) ≤ 268435456
     unfolding marks
-    marks_few = omega (arith, length-map (nodes p) (mark_of p), short)
+    marks_few = omega (arith, length-map (nodes p) (mark_of p))
 
     pub valid : has_book p ≡ true → IsValidBook (book_for p)
     valid has = record {
@@ -254,7 +242,7 @@ module _ (p : Problem) (shaped : IsShape (shape_of p.dimensions)) (asked : CanBe
         shaped = shaped;
         asked = subst (CanBeAsked d) (sym (requirement_back p.requirement)) asked;
         least = λ h. let own = least (asks_least h) in
-            (subst (λ w. IsTrue (is_resolution w)) (sym (requirement_back p.requirement)) own.0, own.1);
+            (rw (requirement_back p.requirement) own.0, own.1);
       };
       few_effects = few;
       beat = beat_fits has;

@@ -1,5 +1,5 @@
 -- Where the first problem of a text stands.
-use Rattle.std.proofs.Common.{ℕ, ◌≤◌, ◌+◌, ◌-◌, List, [], ◌∷◌, ◌++◌, length, arith, inl, inr}
+use Rattle.std.proofs.Common.{ℕ, ◌≤◌, ◌+◌, List, [], ◌∷◌, ◌++◌, length, arith, inl, inr}
 use Rattle.std.specs.Prelude.{Result, Ok, Err, IfErr}
 use Rattle.std.proofs.lemmas.Bool.{cases_Bool}
 use Rattle.fx_vectors.specs.declared.shape.Shape.{Shape}
@@ -8,9 +8,9 @@ use Rattle.fx_rules.specs.declared.problem.RulesFault.{RulesFault}
 use Rattle.fx_rules.specs.declared.reading.Reading.{Reading}
 use Rattle.fx_rules.specs.declared.reading.Stage.TheVariants as stage
 use Rattle.fx_rules.specs.Building.{Built, nothing_built}
-use Rattle.fx_rules.specs.Reading.{at_stage, begun_by, ended_at, formed_at, goes_on, matrix_in, matrix_of_rules}
+use Rattle.fx_rules.specs.Reading.{at_stage, begun_by, ended_at, goes_on, matrix_in, matrix_of_rules}
 use Rattle.fx_rules.specs.Reading.{on_read}
-use Rattle.fx_rules.specs.Reading.{placed, read_on, signed, stepped, worded}
+use Rattle.fx_rules.specs.Reading.{placed, read_on, signed, worded}
 
 module _ (n : ℕ) where
   of_placed : {A : Type 0} (at : ℕ) (x : Result A Problem) → at ≤ n → IfErr (placed at x) (λ f. f.at ≤ n)
@@ -26,20 +26,20 @@ module _ (n : ℕ) where
       → IfErr (worded factors w at r) (λ f. f.at ≤ n)
   of_word factors [] at r h = tt
   of_word factors (c ∷ w) at r h =
-      of_placed (at - length (c ∷ w)) (formed_at r.stage factors (c ∷ w) r.building) (omega (arith, h))
+      of_placed _ _ (omega arith)
 
   of_text : (factors : List (List ℕ)) (text w : List ℕ) (at : ℕ) (r : Reading) → at + length text ≤ n
       → IfErr (read_on factors w at text r) (λ f. f.at ≤ n)
   of_text factors [] w at r h =
-      in_turn (worded factors w at r) (λ last. placed at (ended_at last.stage last.building))
-      (of_word factors w at r (omega (arith, h)))
-      (λ last. of_placed at (ended_at last.stage last.building) (omega (arith, h)))
+      in_turn _ (λ last. placed at (ended_at last.stage last.building))
+      (of_word factors w at r (omega arith))
+      (λ last. of_placed at (ended_at last.stage last.building) (omega arith))
   of_text factors (b ∷ text) w at r h = elim (cases_Bool (goes_on w b)) [
-    | inl is ↦ rw is (of_text factors text (w ++ b ∷ []) (at + 1) r (omega (arith, h)))
-    | inr other ↦ rw other (in_turn (stepped factors w at b r) (read_on factors (begun_by b) (at + 1) text)
-        (in_turn (worded factors w at r) (λ next. placed at (signed b next)) (of_word factors w at r (omega (arith, h)))
-        (λ next. of_placed at (signed b next) (omega (arith, h))))
-        (λ next. of_text factors text (begun_by b) (at + 1) next (omega (arith, h))))
+    | inl is ↦ rw is (of_text factors text (w ++ b ∷ []) (at + 1) r (omega arith))
+    | inr other ↦ rw other (in_turn _ _
+        (in_turn _ (λ next. placed at (signed b next)) (of_word factors w at r (omega arith))
+        (λ next. of_placed at (signed b next) (omega arith)))
+        (λ next. of_text factors text (begun_by b) (at + 1) next (omega arith)))
   ]
 
   of_matrix : (x : Result Built RulesFault) → IfErr x (λ f. f.at ≤ n) → IfErr (matrix_in x) (λ f. f.at ≤ n)
@@ -52,5 +52,5 @@ pub fault_inside : (shape : Shape) (factors : List (List ℕ)) (text : List ℕ)
 unfolding matrix_of_rules
 fault_inside shape factors text =
     let start = at_stage stage.Head (nothing_built shape) in
-    of_matrix (length text) (read_on factors [] 0 text start)
+    of_matrix _ _
     (of_text (length text) factors text [] 0 start (omega arith))

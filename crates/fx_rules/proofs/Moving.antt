@@ -1,5 +1,5 @@
 -- How the reader moves over a piece of a text, whatever follows it.
-use Rattle.std.proofs.Common.{ℕ, ◌≡◌, ◌+◌, Bool, true, false, List, [], ◌∷◌, ◌++◌, refl, sym, ap, ◌∙◌, append_assoc}
+use Rattle.std.proofs.Common.{ℕ, ◌≡◌, ◌+◌, Bool, true, false, List, [], ◌∷◌, ◌++◌, refl, ap, ◌∙◌, append_assoc}
 use Rattle.std.proofs.Common.{append-nil, rules, inl, inr}
 use Rattle.std.specs.Prelude.{Ok, ◌&&◌, ◌||◌, ◌==◌}
 use Rattle.std.proofs.lemmas.Bool.{cases_Bool}
@@ -45,14 +45,14 @@ is_one (b ∷ w) = is_name_byte b && goes_all (b ∷ []) w
 -- no other byte goes on with a word
 no_more : (c : ℕ) (w : List ℕ) (b : ℕ) → is_name_byte b ≡ false → goes_on (c ∷ w) b ≡ false
 no_more c w b out =
-    let letter : is_word_byte b ≡ false = left_false (is_word_byte b) _ out in
+    let letter : is_word_byte b ≡ false = left_false _ _ out in
     let digit : is_digit b ≡ false = right_false (begins_word b) (is_digit b) letter in
     let close : (b == 93) ≡ false = right_false (b == 91) (b == 93) (right_false (is_word_byte b) _ out) in
     elim (cases_Bool (c == 91)) [
       | inl is ↦ rw (is, digit, close) (and_false (is_open (c ∷ w)))
       | inr other ↦
           let none : (is_word_byte c && is_word_byte b) ≡ false =
-          ap (λ (x : Bool). is_word_byte c && x) letter ∙ and_false (is_word_byte c) in
+          cc (and_false (is_word_byte c)) in
           rw other none
     ]
 
@@ -67,19 +67,19 @@ module _ (factors : List (List ℕ)) where
       let first = a (more ++ rest) at in
       let second = b rest first.0 in (
         second.0,
-        ap (λ (l : List ℕ). read_on factors word at l r) (append_assoc text more rest) ∙ (first.1 ∙ second.1),
+        cc (append_assoc text more rest),
       )
 
   -- over bytes that go on with a word
   more_letters : (w word : List ℕ) (r : Reading) → goes_all word w ≡ true → Moves factors word r w (word ++ w) r
-  more_letters [] word r h rest at = (at, ap (λ (z : List ℕ). read_on factors z at rest r) (sym (append-nil word)))
+  more_letters [] word r h rest at = (at, cc (append-nil word))
   more_letters (b ∷ w) word r h rest at =
       let is : goes_on word b ≡ true = left_true _ _ h in
-      let next = more_letters w (word ++ b ∷ []) r (right_true (goes_on word b) _ h) rest (at + 1) in
+      let next = more_letters w (word ++ b ∷ []) r (right_true _ _ h) rest (at + 1) in
       let step : read_on factors word at (b ∷ (w ++ rest)) r
-      ≡ read_on factors (word ++ b ∷ []) (at + 1) (w ++ rest) r = rw is refl in (
+      ≡ read_on factors (word ++ b ∷ []) (at + 1) (w ++ rest) r = rw is in (
         next.0,
-        step ∙ (next.1 ∙ ap (λ (z : List ℕ). read_on factors z next.0 rest r) (append_assoc word (b ∷ []) w)),
+        step ∙ (next.1 ∙ ap (λ z. read_on factors z next.0 rest r) (append_assoc word (b ∷ []) w)),
       )
 
   -- over a word
@@ -87,9 +87,9 @@ module _ (factors : List (List ℕ)) where
   letters [] r h rest at = absurd (search (rules, h))
   letters (b ∷ w) r h rest at =
       let is : is_name_byte b ≡ true = left_true _ _ h in
-      let next = more_letters w (b ∷ []) r (right_true (is_name_byte b) _ h) rest (at + 1) in
+      let next = more_letters w (b ∷ []) r (right_true _ _ h) rest (at + 1) in
       let step : read_on factors [] at (b ∷ (w ++ rest)) r ≡ read_on factors (b ∷ []) (at + 1) (w ++ rest) r =
-      rw is refl in
+      rw is in
       (next.0, step ∙ next.1)
 
   -- over a byte that ends a word
@@ -97,9 +97,9 @@ module _ (factors : List (List ℕ)) where
       → worded_at r.stage factors (c ∷ w) r.building ≡ Ok between → signed b between ≡ Ok after
       → Moves factors (c ∷ w) r (b ∷ []) [] after
   closes c b w r between after out formed e f rest at =
-      let stop = no_more c w b out in (at + 1, rw (stop, formed, e, f, out) refl)
+      let stop = no_more c w b out in (at + 1, rw (stop, formed, e, f, out))
 
   -- over a byte where no word is open
   pub passes : (b : ℕ) (r after : Reading) → is_name_byte b ≡ false → signed b r ≡ Ok after
       → Moves factors [] r (b ∷ []) [] after
-  passes b r after out f rest at = (at + 1, rw (f, out) refl)
+  passes b r after out f rest at = (at + 1, rw (f, out))

@@ -7,7 +7,6 @@ use Rattle.std.specs.Prelude.{if◌then◌else◌}
 use Rattle.std.specs.List.{AllByRecursion}
 use Rattle.std.specs.Str.{bytes_eq}
 use Rattle.std.proofs.lemmas.Bool.{cases_Bool, eqb-true, eqb-false, ne_eqb, le-leb, lt-ltb, le-ltb, leb-true, cases_lt}
-use Rattle.std.specs.Char.{to_ascii_lowercase}
 use Rattle.std.specs.Fmt.{digits as fmt_digits}
 use Rattle.std.proofs.lemmas.Fmt.{decimal_digit}
 use Rattle.std.proofs.lemmas.Slice.Eq.{bytes_eq-Decides}
@@ -41,10 +40,10 @@ unit_right (Err e) = refl
 
 -- the last of several factors that introduce run indexes
 indexes_snoc : (n : ℕ) (b : Built) → with_indexes (suc n) b ≡ and_then (with_indexes n b) with_index
-indexes_snoc zero b = unit_right (with_index b)
+indexes_snoc zero b = unit_right _
 indexes_snoc (suc n) b = elim (cases_result (with_index b)) [
-  | inl h ↦ let e = h.1 in rw e (indexes_snoc n h.0)
-  | inr h ↦ let e = h.1 in rw e refl
+  | inl h ↦ rw h.1 (indexes_snoc n h.0)
+  | inr h ↦ rw h.1
 ]
 
 -- as many names as places
@@ -54,7 +53,7 @@ as_many shape factors low [] [] h = refl
 as_many shape factors low [] (place ∷ places) h = absurd h
 as_many shape factors low (name ∷ names) [] h = absurd h
 as_many shape factors low (name ∷ names) (place ∷ places) h =
-    ap suc (as_many shape factors (place + 1) names places h.3)
+    cc (as_many shape factors (place + 1) names places h.3)
 
 mean_snoc : (shape : Shape) (factors : List (List ℕ)) (low p : ℕ) (name : List ℕ) (names : List (List ℕ))
     (places : List ℕ) → low ≤ p → AllLess p places → IsWord name → place_in shape factors name ≡ Some p
@@ -66,7 +65,7 @@ mean_snoc shape factors low p name (n ∷ names) (place ∷ places) at less w e 
   h.0,
   h.1,
   h.2,
-  mean_snoc shape factors (place + 1) p name names places (omega (arith, less.0)) less.1 w e h.3,
+  mean_snoc shape factors (place + 1) p name names places (omega arith) less.1 w e h.3,
 )
 
 of_ten : IsWord (decimal 10)
@@ -79,16 +78,15 @@ and_false false = refl
 
 one_digit : (i : ℕ) → 0 < i → i < 10 → IsWord ((48 + i) ∷ [])
 one_digit i some low =
-    let byte = digit_name (48 + i) (digit_byte i low) in
-    let other : (48 + i == 48) ≡ false =
-    ne_eqb (48 + i) 48 (λ e. let same : 48 + i ≡ 48 = e in omega (arith, some, same)) in
+    let other =
+    ne_eqb (48 + i) 48 (λ e. omega arith) in
     record {
       some = lit< tt;
-      bytes = rw byte refl;
+      bytes = rw (digit_name _ (digit_byte i low));
       formed = digit_formed i low;
-      no_zero = rw other refl;
-      no_none = and_false (to_ascii_lowercase (48 + i) == 110);
-      no_run = and_false (to_ascii_lowercase (48 + i) == 114);
+      no_zero = rw other;
+      no_none = and_false _;
+      no_run = and_false _;
     }
 
 module _ (shape : Shape) (factors : List (List ℕ)) where
@@ -110,34 +108,28 @@ module _ (shape : Shape) (factors : List (List ℕ)) where
       ≡ Ok (bd shape factors (rows ++ shape.q ^ length firsts ∷ []) (firsts ++ length rows ∷ [])
       (zeros (length (firsts ++ length rows ∷ []))) last)
   index_is rows firsts codes last few room =
-      let a : nat_lt (length firsts) shape.m ≡ true = lt-ltb (length firsts) shape.m few in
-      let b : nat_lt (length rows) (shape.s + shape.t) ≡ true = lt-ltb (length rows) (shape.s + shape.t) room in
-      rw (a, b) refl
+      let b = lt-ltb _ _ room in
+      rw (lt-ltb _ shape.m few, b)
 
   -- a factor without a rule
   pub unsaid : (r : Reading) (p : ℕ) (rows firsts : List ℕ) → length rows ≡ p → length firsts < shape.m
       → p < shape.s + shape.t → Ready r p rows firsts
       → Ready r (p + 1) (rows ++ shape.q ^ length firsts ∷ []) (firsts ++ p ∷ [])
   unsaid r p rows firsts long few room h =
-      let b = h.base in
-      let more : p + 1 - length b.rows ≡ suc (p - length b.rows) = let k = h.behind in omega (arith, k) in
-      let next = index_is rows firsts h.codes h.last few (omega (arith, long, room)) in
-      let filled : with_indexes (p + 1 - length b.rows) b
-      ≡ Ok (bd shape factors (rows ++ shape.q ^ length firsts ∷ []) (firsts ++ length rows ∷ [])
-      (zeros (length (firsts ++ length rows ∷ []))) h.last) =
-      ap (λ (n : ℕ). with_indexes n b) more
-      ∙ (indexes_snoc (p - length b.rows) b ∙
-      (ap (λ (x : Result Built Problem). and_then x with_index) h.filled ∙ next)) in
+      let more : p + 1 - length h.base.rows ≡ suc (p - length h.base.rows) = omega arith in
+      let filled =
+      ap (λ n. with_indexes n h.base) more
+      ∙ (indexes_snoc (p - length h.base.rows) h.base ∙
+      (ap (λ x. and_then x with_index) h.filled ∙ (index_is rows firsts h.codes h.last few (omega arith)))) in
       record {
-        base = b;
+        base = h.base;
         opens = h.opens;
         ends = h.ends;
         shape_is = h.shape_is;
-        behind = (let k = h.behind in omega (arith, k));
+        behind = (omega arith);
         codes = zeros (length (firsts ++ length rows ∷ []));
         last = h.last;
-        filled = filled ∙ ap (λ (k : ℕ). Ok (bd shape factors (rows ++ shape.q ^ length firsts ∷ []) (firsts ++ k ∷ [])
-            (zeros (length (firsts ++ length rows ∷ []))) h.last)) long;
+        filled = cc;
       }
 
   -- behind the rule of a row
@@ -147,33 +139,31 @@ module _ (shape : Shape) (factors : List (List ℕ)) where
   behind_rule o rows firsts digits last row p long room is =
       let b = bd shape factors rows firsts digits last in
       let next = bd shape factors (rows ++ row ∷ []) firsts digits last in
-      let a : nat_lt (length rows) (shape.s + shape.t) ≡ true =
-      lt-ltb (length rows) (shape.s + shape.t) (omega (arith, long, room)) in
-      let e : ruled b ≡ Ok next = rw (a, is) refl in
-      let count : length (rows ++ row ∷ []) ≡ p + 1 = let l = length-append rows (row ∷ []) in omega (arith, l, long) in
-      let none : p + 1 - length (rows ++ row ∷ []) ≡ 0 = omega (arith, count) in
+      let e : ruled b ≡ Ok next = rw (lt-ltb (length rows) (shape.s + shape.t) (omega arith), is) in
+      let count : length (rows ++ row ∷ []) ≡ p + 1 = let l = length-append rows (row ∷ []) in omega arith in
+      let none : p + 1 - length (rows ++ row ∷ []) ≡ 0 = omega arith in
       record {
         base = next;
         opens = λ place word w at. opened o b next e place word at;
         ends = ending o b next e;
         shape_is = refl;
-        behind = omega (arith, count);
+        behind = omega arith;
         codes = digits;
         last = last;
-        filled = ap (λ (n : ℕ). with_indexes n next) none;
+        filled = cc;
       }
     where
       opened : (o : Option Bool) (b next : Built) → ruled b ≡ Ok next → (place : ℕ) (word : List ℕ)
           → place_in b.shape factors word ≡ Some place
           → worded_at (after_rule o) factors word b ≡ then_at stage.Equals (begun place next)
-      opened None b next e place word at = rw (e, at) refl
-      opened (Some true) b next e place word at = rw (e, at) refl
-      opened (Some false) b next e place word at = rw (e, at) refl
+      opened None b next e place word at = rw (e, at)
+      opened (Some true) b next e place word at = rw (e, at)
+      opened (Some false) b next e place word at = rw (e, at)
 
       ending : (o : Option Bool) (b next : Built) → ruled b ≡ Ok next → ended_at (after_rule o) b ≡ completed next
-      ending None b next e = rw e refl
-      ending (Some true) b next e = rw e refl
-      ending (Some false) b next e = rw e refl
+      ending None b next e = rw e
+      ending (Some true) b next e = rw e
+      ending (Some false) b next e = rw e
 
   -- a left side, behind which the product begins
   left_side_read : (r : Reading) (p : ℕ) (rows firsts : List ℕ) (name : List ℕ) → IsWord name
@@ -182,22 +172,18 @@ module _ (shape : Shape) (factors : List (List ℕ)) where
       (at_stage stage.First (bd shape factors rows firsts (zeros (length firsts)) last))
   left_side_read r p rows firsts [] w at h = absurd (let k = w.some in omega arith)
   left_side_read r p rows firsts (c ∷ name) w at h =
-      let b = h.base in
       let now = bd shape factors rows firsts (zeros (length firsts)) h.last in
-      let low : nat_lt p (length b.rows) ≡ false = (let k = h.behind in le-ltb p (length b.rows) k) in
-      let f = h.filled in
-      let begins : begun p b ≡ Ok now = rw (low, f) refl in
-      let word : worded_at r.stage factors (c ∷ name) r.building ≡ Ok (at_stage stage.Equals now) =
-      h.opens p (c ∷ name) w at ∙ ap (then_at stage.Equals) begins in
+      let low : nat_lt p (length h.base.rows) ≡ false = (le-ltb p _ h.behind) in
+      let begins : begun p h.base ≡ Ok now = rw (low, h.filled) in
       let equals = at_stage stage.Equals now in
       let first = at_stage stage.First now in (
         h.last,
         moves_on factors [] [] [] r r first (codes "  ") ((c ∷ name) ++ codes " = ")
             (moves_on factors [] [] [] r r r (codes " ") (codes " ") (passes factors 32 r r refl refl)
             (passes factors 32 r r refl refl))
-            (moves_on factors [] (c ∷ name) [] r r first (c ∷ name) (codes " = ") (letters factors (c ∷ name) r w.bytes)
+            (moves_on factors [] (c ∷ name) [] r r first (c ∷ name) (codes " = ") (letters factors _ r w.bytes)
             (moves_on factors (c ∷ name) [] [] r equals first (codes " ") (codes "= ")
-            (closes factors c 32 name r equals equals refl w.formed word refl)
+            (closes factors c 32 name r equals equals refl w.formed (cc (h.opens p (c ∷ name) w at)) refl)
             (moves_on factors [] [] [] equals first first (codes "=") (codes " ")
             (passes factors 61 equals first refl refl) (passes factors 32 first first refl refl)))),
       )
@@ -238,9 +224,8 @@ module _ (shape : Shape) (factors : List (List ℕ)) where
   pub number_word : (i : ℕ) → 0 < i → i ≤ 10 → IsWord (decimal i)
   number_word i some few = elim (cases_lt i 10) [
     | inl low ↦
-        let digit = decimal_digit i low in
-        subst IsWord (sym digit) (one_digit i some low)
-    | inr high ↦ let ten : i ≡ 10 = omega (arith, few, high) in subst (λ (k : ℕ). IsWord (decimal k)) (sym ten) of_ten
+        subst IsWord (sym (decimal_digit i low)) (one_digit i some low)
+    | inr high ↦ let ten : i ≡ 10 = omega arith in rw ten of_ten
   ]
 
   same_bytes : (w : List ℕ) → bytes_eq w w ≡ true
@@ -253,7 +238,7 @@ module _ (shape : Shape) (factors : List (List ℕ)) where
       → Reached r (run_factor_line name (length firsts + 1)) (p + 1) (rows ++ shape.q ^ length firsts ∷ [])
       (firsts ++ p ∷ [])
   run_factor_read r p rows firsts name w at long room block few ten h =
-      let i : ℕ = length firsts + 1 in
+      let i = length firsts + 1 in
       let left = left_side_read r p rows firsts name w at h in
       let b = bd shape factors rows firsts (zeros (length firsts)) left.0 in
       let first = at_stage stage.First b in
@@ -262,30 +247,27 @@ module _ (shape : Shape) (factors : List (List ℕ)) where
       let next = bd shape factors (rows ++ shape.q ^ length firsts ∷ []) (firsts ++ length rows ∷ [])
       (zeros (length (firsts ++ length rows ∷ []))) left.0 in
       let end = at_stage stage.Between next in
-      let behind : nat_le shape.s (length rows) ≡ true = le-leb shape.s (length rows) (omega (arith, long, block)) in
-      let says : worded_at stage.First factors (codes "run") b ≡ Ok run = rw behind refl in
-      let index : with_index b ≡ Ok next =
-      index_is rows firsts (zeros (length firsts)) left.0 few (omega (arith, long, room)) in
-      let same : bytes_eq (decimal i) (decimal i) ≡ true = same_bytes (decimal i) in
-      let there : nat_lt (length firsts) shape.m ≡ true = lt-ltb (length firsts) shape.m few in
-      let follows : is_next (decimal i) b ≡ true = rw (there, same) refl in
-      let counted : worded_at stage.RunNumber factors (decimal i) b ≡ Ok end = rw (follows, index) refl in
-      let over : Moves factors [] first (codes "run factor " ++ (decimal i ++ codes "\n")) [] end =
+      let index =
+      index_is rows firsts (zeros (length firsts)) left.0 few (omega arith) in
+      let same = same_bytes (decimal i) in
+      let follows : is_next (decimal i) b ≡ true = rw (lt-ltb _ shape.m few, same) in
+      let over =
       moves_on factors [] [] [] first number end (codes "run factor ") (decimal i ++ codes "\n")
       (moves_on factors [] (codes "run") [] first first number (codes "run") (codes " factor ")
       (letters factors (codes "run") first refl)
       (moves_on factors (codes "run") [] [] first run number (codes " ") (codes "factor ")
-      (closes factors 114 32 (codes "un") first run run refl refl says refl)
+      (closes factors 114 32 (codes "un") first run run refl refl (rw (le-leb shape.s (length rows) (omega arith)))
+      refl)
       (moves_on factors [] (codes "factor") [] run run number (codes "factor") (codes " ")
       (letters factors (codes "factor") run refl)
       (closes factors 102 32 (codes "actor") run number number refl refl refl refl))))
       (moves_on factors [] (decimal i) [] number number end (decimal i) (codes "\n")
-      (letters factors (decimal i) number (number_word i (omega arith) (omega (arith, few, ten))).bytes)
-      (ended (decimal i) number end (number_word i (omega arith) (omega (arith, few, ten))).some
-      (number_word i (omega arith) (omega (arith, few, ten))).formed counted refl)) in
+      (letters factors (decimal i) number (number_word i (omega arith) (omega arith)).bytes)
+      (ended (decimal i) number end (number_word i (omega arith) (omega arith)).some
+      (number_word i (omega arith) (omega arith)).formed (rw (follows, index)) refl)) in
       let count : length (rows ++ shape.q ^ length firsts ∷ []) ≡ p + 1 =
-      let l = length-append rows (shape.q ^ length firsts ∷ []) in omega (arith, l, long) in
-      let zero : p + 1 - length (rows ++ shape.q ^ length firsts ∷ []) ≡ 0 = omega (arith, count) in
+      let l = length-append rows (shape.q ^ length firsts ∷ []) in omega arith in
+      let zero : p + 1 - length (rows ++ shape.q ^ length firsts ∷ []) ≡ 0 = omega arith in
       record {
         reading = end;
         moves = moves_on factors [] [] [] r first end (left_side name)
@@ -293,22 +275,20 @@ module _ (shape : Shape) (factors : List (List ℕ)) where
             left.1 over;
         ready = record {
           base = next;
-          opens = λ place word w e. (rw e refl);
+          opens = λ place word w e. (rw e);
           ends = refl;
           shape_is = refl;
-          behind = omega (arith, count);
+          behind = omega arith;
           codes = zeros (length (firsts ++ length rows ∷ []));
           last = left.0;
-          filled = ap (λ (n : ℕ). with_indexes n next) zero
-              ∙ ap (λ (k : ℕ). Ok (bd shape factors (rows ++ shape.q ^ length firsts ∷ []) (firsts ++ k ∷ [])
-              (zeros (length (firsts ++ length rows ∷ []))) left.0)) long;
+          filled = cc;
         };
       }
     where
       ended : (word : List ℕ) (r after : Reading) → 0 < length word → is_formed word ≡ true
           → worded_at r.stage factors word r.building ≡ Ok after → signed 10 after ≡ Ok after
           → Moves factors word r (codes "\n") [] after
-      ended [] r after some formed e f = absurd (omega (arith, some))
+      ended [] r after some formed e f = absurd (omega arith)
       ended (c ∷ word) r after some formed e f = closes factors c 10 word r after after refl formed e f
 
   -- these are the subjects from place p on
@@ -342,17 +322,17 @@ module _ (shape : Shape) (factors : List (List ℕ)) where
     built = c.built;
     shape_is = c.shape_is;
     rows_are = c.rows_are;
-    read = λ at. (let m = t.moves more at in m.1 ∙ c.read m.0);
+    read = λ at. (let m = t.moves more at in cc (c.read m.0));
   }
 
   from_bound : (p : ℕ) (subs : List Subject) → From p subs → p + length subs ≡ shape.s + shape.t
-  from_bound p [] h = let e : p ≡ shape.s + shape.t = h in omega (arith, e)
-  from_bound p (x ∷ later) h = let e = from_bound (p + 1) later h.3 in omega (arith, e)
+  from_bound p [] h = omega arith
+  from_bound p (x ∷ later) h = let e = from_bound (p + 1) later h.3 in omega arith
 
   strictly : (a b : ℕ) → a ≤ b → (a ≡ b → ⊥) → a < b
   strictly a b low apart = elim (cases_lt a b) [
     | inl less ↦ less
-    | inr high ↦ absurd (apart (omega (arith, low, high)))
+    | inr high ↦ absurd (apart (omega arith))
   ]
 
   fewer : (n row : ℕ) → 0 < shape.q → row ≡ shape.q ^ n → row < shape.q ^ shape.m → n < shape.m
@@ -368,11 +348,11 @@ module _ (shape : Shape) (factors : List (List ℕ)) where
       → Completed r [] rows
   at_end r p rows firsts from h =
       let b = h.base in
-      let end : shape.s + shape.t ≡ p = sym from in
+      let end = sym from in
       let same = h.shape_is in
-      let filled : completed b ≡ Ok (bd shape factors rows firsts h.codes h.last) =
-      ap (λ (z : Shape). with_indexes (z.s + z.t - length b.rows) b) same
-      ∙ (ap (λ (n : ℕ). with_indexes (n - length b.rows) b) end ∙ h.filled) in
+      let filled =
+      ap (λ z. with_indexes (z.s + z.t - length b.rows) b) same
+      ∙ (ap (λ n. with_indexes (n - length b.rows) b) end ∙ h.filled) in
       let ends = h.ends ∙ filled in
       record {
         built = bd shape factors rows firsts h.codes h.last;
@@ -396,9 +376,9 @@ module _ (shape : Shape) (factors : List (List ℕ)) where
       let now = bd shape factors rows firsts (zeros (length firsts)) h.last in
       let low : nat_lt p (length b.rows) ≡ false = (let k = h.behind in le-ltb p (length b.rows) k) in
       let f = h.filled in
-      let begins : begun p b ≡ Ok now = rw (low, f) refl in
+      let begins : begun p b ≡ Ok now = rw (low, f) in
       let word : worded_at r.stage factors (c ∷ name) r.building ≡ Ok (at_stage stage.Equals now) =
-      h.opens p (c ∷ name) w at ∙ ap (then_at stage.Equals) begins in
+      cc (h.opens p (c ∷ name) w at, begins) in
       let equals = at_stage stage.Equals now in
       let first = at_stage stage.First now in
       let many = as_many shape factors 0 names firsts mean in

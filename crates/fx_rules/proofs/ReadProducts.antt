@@ -1,8 +1,8 @@
 -- The reader over a product as it is printed.
 use Rattle.std.proofs.Common.{ℕ, ◌≡◌, ◌<◌, ◌≤◌, ◌+◌, ◌-◌, ◌%◌, ◌/◌, zero, suc, Bool, true, false, List, [], ◌∷◌, ◌++◌}
 use Rattle.std.proofs.Common.{length}
-use Rattle.std.proofs.Common.{refl, sym, ap, ◌∙◌, subst, arith, inl, inr, append_assoc, length-append}
-use Rattle.std.specs.Prelude.{Ok, Option, Some, None, ◌==◌, ◌||◌, not, nat_le, nat_lt, codes, position, slice_index}
+use Rattle.std.proofs.Common.{refl, sym, ◌∙◌, subst, arith, inl, inr, append_assoc, length-append}
+use Rattle.std.specs.Prelude.{Ok, Option, Some, None, ◌==◌, ◌||◌, not, codes, position, slice_index}
 use Rattle.std.specs.Prelude.{slice_set}
 use Rattle.std.specs.List.{prefix_len}
 use Rattle.std.specs.Str.{bytes_eq}
@@ -49,7 +49,7 @@ AllLess n (k ∷ ks) = (k < n) × AllLess n ks
 
 pub less_more : (n m : ℕ) (ks : List ℕ) → n ≤ m → AllLess n ks → AllLess m ks
 less_more n m [] low h = tt
-less_more n m (k ∷ ks) low h = (omega (arith, h.0), less_more n m ks low h.1)
+less_more n m (k ∷ ks) low h = (omega arith, less_more n m ks low h.1)
 
 pub less_snoc : (n k : ℕ) (ks : List ℕ) → k < n → AllLess n ks → AllLess n (ks ++ k ∷ [])
 less_snoc n k [] low h = (low, tt)
@@ -58,20 +58,19 @@ less_snoc n k (j ∷ ks) low h = (h.0, less_snoc n k ks low h.1)
 -- the place behind lesser ones
 prefix_behind : (p : ℕ) (pre post : List ℕ) → AllLess p pre
     → prefix_len (λ (f : ℕ). not (f == p)) (pre ++ p ∷ post) ≡ length pre
-prefix_behind p [] post h = let is : (p == p) ≡ true = eq-eqb p p refl in rw is refl
+prefix_behind p [] post h = rw (eq-eqb p p refl)
 prefix_behind p (k ∷ pre) post h =
-    let other : (k == p) ≡ false = ne_eqb k p (λ e. let same : k ≡ p = e in omega (arith, h.0, same)) in
+    let other = ne_eqb k p (λ e. omega arith) in
     let rest = prefix_behind p pre post h.1 in
     rw (other, rest) (omega arith)
 
 place_behind : (p : ℕ) (pre post : List ℕ) → AllLess p pre
     → position (λ (f : ℕ). f == p) (pre ++ p ∷ post) ≡ Some (length pre)
 place_behind p pre post h =
-    let e = prefix_behind p pre post h in
     let long = length-append pre (p ∷ post) in
-    let there : nat_lt (length pre) (length (pre ++ p ∷ post)) ≡ true =
-    lt-ltb (length pre) (length (pre ++ p ∷ post)) (omega (arith, long)) in
-    rw (e, there) refl
+    let there =
+    lt-ltb (length pre) (length (pre ++ p ∷ post)) (omega arith) in
+    rw (prefix_behind p pre post h, there)
 
 abbrev pub stage_of : Bool → Stage
 stage_of true = stage.First
@@ -84,16 +83,15 @@ after_rule (Some false) = stage.Factor
 
 pub digit_byte : (c : ℕ) → c < 10 → is_digit (48 + c) ≡ true
 digit_byte c low =
-    let more : nat_le 48 (48 + c) ≡ true = le-leb 48 (48 + c) (omega arith) in
-    let less : nat_le (48 + c) 57 ≡ true = le-leb (48 + c) 57 (omega (arith, low)) in
-    rw (more, less) refl
+    let less = le-leb (48 + c) 57 (omega arith) in
+    rw (le-leb 48 (48 + c) (omega arith), less)
 
 middle_true : (a b d : Bool) → b ≡ true → ((a || b) || d) ≡ true
 middle_true true b d h = refl
-middle_true false b d h = rw h refl
+middle_true false b d h = rw h
 
 pub digit_name : (b : ℕ) → is_digit b ≡ true → is_name_byte b ≡ true
-digit_name b h = middle_true (begins_word b) (is_digit b) ((b == 91) || (b == 93)) h
+digit_name b h = middle_true _ _ _ h
 
 right_or : (a b : Bool) → b ≡ true → (a || b) ≡ true
 right_or true b h = refl
@@ -101,10 +99,9 @@ right_or false b h = h
 
 pub digit_formed : (c : ℕ) → c < 10 → is_formed ((48 + c) ∷ []) ≡ true
 digit_formed c low =
-    let other : (48 + c == 91) ≡ false =
-    ne_eqb (48 + c) 91 (λ e. let same : 48 + c ≡ 91 = e in omega (arith, low, same)) in
-    let byte = right_or (begins_word (48 + c)) (is_digit (48 + c)) (digit_byte c low) in
-    rw other byte
+    let other =
+    ne_eqb (48 + c) 91 (λ e. omega arith) in
+    rw other (right_or (begins_word (48 + c)) _ (digit_byte c low))
 
 digit_back : (c : ℕ) → 48 + c - 48 ≡ c
 digit_back c = omega arith
@@ -126,37 +123,33 @@ module _ (shape : Shape) (factors : List (List ℕ)) (rows firsts : List ℕ) wh
   -- a factor that is not yet in the product
   times_is : (p j : ℕ) (codes : List ℕ) (last : ℕ) → position (λ (f : ℕ). f == p) firsts ≡ Some j
       → slice_index codes j ≡ 0 → times p (bd codes last) ≡ Ok (bd (slice_set codes j 1) j)
-  times_is p j codes last e h = rw (e, h) refl
+  times_is p j codes last e h = rw (e, h)
 
   factor_word : (first : Bool) (name : List ℕ) (p j : ℕ) (codes : List ℕ) (last : ℕ) → IsWord name
       → place_in shape factors name ≡ Some p → position (λ (f : ℕ). f == p) firsts ≡ Some j → slice_index codes j ≡ 0
       → worded_at (stage_of first) factors name (bd codes last)
       ≡ Ok (at_stage stage.Factor (bd (slice_set codes j 1) j))
   factor_word true name p j codes last w at e h =
-      let zero = w.no_zero in
-      let run = w.no_run in
       let t = times_is p j codes last e h in
-      rw (zero, run, at, t) refl
+      rw (w.no_zero, w.no_run, at, t)
   factor_word false name p j codes last w at e h =
       let t = times_is p j codes last e h in
-      rw (at, t) refl
+      rw (at, t)
 
   power_word : (c j : ℕ) (codes : List ℕ) → 0 < c → c < shape.q → c < 10 → j < length codes
       → worded_at stage.Power factors ((48 + c) ∷ []) (bd codes j)
       ≡ Ok (at_stage stage.Powered (bd (slice_set codes j c) j))
   power_word c j codes some low ten there =
-      let digit = digit_byte c ten in
       let back = digit_back c in
-      let a : nat_lt 0 c ≡ true = lt-ltb 0 c some in
-      let b : nat_lt c shape.q ≡ true = lt-ltb c shape.q low in
-      let d : nat_lt j (length codes) ≡ true = lt-ltb j (length codes) there in
-      rw (digit, back, a, b, d) refl
+      let a = lt-ltb 0 c some in
+      let b = lt-ltb c shape.q low in
+      let d = lt-ltb j _ there in
+      rw (digit_byte c ten, back, a, b, d)
 
   star : (word : List ℕ) (r : Reading) (b : Built) → Pending word r b
       → Moves factors word r (codes "*") [] (at_stage stage.Next b)
   star word r b p =
-      subst (λ (w : List ℕ). Moves factors w r (codes "*") [] (at_stage stage.Next b)) (sym p.word_is)
-      (closes factors p.head 42 p.tail r (at_stage (after_rule (Some p.powered)) b) (at_stage stage.Next b) refl
+      rw p.word_is (closes factors p.head 42 p.tail r _ _ refl
       p.formed p.ends
       (starred p.powered))
     where
@@ -168,10 +161,9 @@ module _ (shape : Shape) (factors : List (List ℕ)) (rows firsts : List ℕ) wh
       (p : Pending word r b)
       → Moves factors word r (end ∷ []) [] (at_stage (after_rule (Some p.powered)) b)
   line_end end out white word r b p =
-      subst (λ (w : List ℕ). Moves factors w r (end ∷ []) [] (at_stage (after_rule (Some p.powered)) b)) (sym p.word_is)
-      (closes factors p.head end p.tail r (at_stage (after_rule (Some p.powered)) b)
+      rw p.word_is (closes factors p.head end p.tail r _
       (at_stage (after_rule (Some p.powered)) b)
-      out p.formed p.ends (rw (out, white) refl))
+      out p.formed p.ends (rw (out, white)))
 
   -- one more factor of a product, of which the codes `done` are read
   record Term (first : Bool) (name : List ℕ) (done zs : List ℕ) (c last : ℕ) : Type 0 where
@@ -186,9 +178,8 @@ module _ (shape : Shape) (factors : List (List ℕ)) (rows firsts : List ℕ) wh
       ≡ Ok (at_stage stage.Factor (bd (done ++ 1 ∷ zs) (length done)))
   at_word first name p pre post done zs last w at e less same =
       let there : position (λ (f : ℕ). f == p) firsts ≡ Some (length done) =
-      ap (position (λ (f : ℕ). f == p)) e ∙ place_behind p pre post less ∙ ap (λ (k : ℕ). Some k) same in
-      factor_word first name p (length done) (done ++ 0 ∷ zs) last w at there (get_or-append_seam done 0 zs 0)
-      ∙ ap (λ (l : List ℕ). Ok (at_stage stage.Factor (bd l (length done)))) (set-append_seam done 0 zs 1)
+      cc (place_behind p pre post less) in
+      cc (factor_word first name p _ _ last w at there (get_or-append_seam done 0 zs 0), set-append_seam done 0 zs 1)
 
   plain_term : (first : Bool) (name : List ℕ) (done zs : List ℕ) (last : ℕ) → IsWord name
       → worded_at (stage_of first) factors name (bd (done ++ 0 ∷ zs) last)
@@ -199,7 +190,7 @@ module _ (shape : Shape) (factors : List (List ℕ)) (rows firsts : List ℕ) wh
     word = b ∷ name;
     reading = at_stage (stage_of first) (bd (done ++ 0 ∷ zs) last);
     moves = moves_on factors [] (b ∷ name) (b ∷ name) _ _ _ (b ∷ name) []
-        (letters factors (b ∷ name) (at_stage (stage_of first) (bd (done ++ 0 ∷ zs) last)) w.bytes)
+        (letters factors _ (at_stage (stage_of first) (bd (done ++ 0 ∷ zs) last)) w.bytes)
         (stays factors (b ∷ name) (at_stage (stage_of first) (bd (done ++ 0 ∷ zs) last)));
     pending = record { powered = false; head = b; tail = name; word_is = refl; formed = w.formed; ends = e };
   }
@@ -212,31 +203,28 @@ module _ (shape : Shape) (factors : List (List ℕ)) (rows firsts : List ℕ) wh
   term_to_power first [] done zs c last w other some low ten e = absurd (let h = w.some in omega arith)
   term_to_power first (b ∷ name) done zs c last w other some low ten e =
       let before = at_stage (stage_of first) (bd (done ++ 0 ∷ zs) last) in
-      let behind = at_stage stage.Factor (bd (done ++ 1 ∷ zs) (length done)) in
       let power = at_stage stage.Power (bd (done ++ 1 ∷ zs) (length done)) in
       let digit = decimal_digit c ten in
-      let byte : is_name_byte (48 + c) ≡ true = digit_name (48 + c) (digit_byte c ten) in
-      let all : is_one ((48 + c) ∷ []) ≡ true = rw byte refl in
-      let over : Moves factors [] before ((b ∷ name) ++ (codes "^" ++ ((48 + c) ∷ []))) ((48 + c) ∷ []) power =
+      let over =
       moves_on factors [] (b ∷ name) ((48 + c) ∷ []) before before power (b ∷ name) (codes "^" ++ ((48 + c) ∷ []))
       (letters factors (b ∷ name) before w.bytes)
       (moves_on factors (b ∷ name) [] ((48 + c) ∷ []) before power power (codes "^") ((48 + c) ∷ [])
-      (closes factors b 94 name before behind power refl w.formed e refl)
-      (letters factors ((48 + c) ∷ []) power all)) in
-      let long : length done < length (done ++ 1 ∷ zs) = let h = length-append done (1 ∷ zs) in omega (arith, h) in
-      let text : (b ∷ name) ++ (codes "^" ++ ((48 + c) ∷ [])) ≡ term (b ∷ name) c = rw (other, digit) refl in
+      (closes factors b 94 name before (at_stage stage.Factor (bd (done ++ 1 ∷ zs) (length done))) power refl w.formed e
+      refl)
+      (letters factors ((48 + c) ∷ []) power (rw (digit_name (48 + c) (digit_byte c ten))))) in
+      let long : length done < length (done ++ 1 ∷ zs) = let h = length-append done (1 ∷ zs) in omega arith in
+      let text : (b ∷ name) ++ (codes "^" ++ ((48 + c) ∷ [])) ≡ term (b ∷ name) c = rw (other, digit) in
       record {
         word = (48 + c) ∷ [];
         reading = power;
-        moves = subst (λ (t : List ℕ). Moves factors [] before t ((48 + c) ∷ []) power) text over;
+        moves = subst (λ t. Moves factors [] before t ((48 + c) ∷ []) power) text over;
         pending = record {
           powered = true;
           head = 48 + c;
           tail = [];
           word_is = refl;
           formed = digit_formed c ten;
-          ends = power_word c (length done) (done ++ 1 ∷ zs) some low ten long
-              ∙ ap (λ (l : List ℕ). Ok (at_stage stage.Powered (bd l (length done)))) (set-append_seam done 1 zs c);
+          ends = cc (power_word c _ _ some low ten long, set-append_seam done 1 zs c);
         };
       }
 
@@ -255,18 +243,16 @@ module _ (shape : Shape) (factors : List (List ℕ)) (rows firsts : List ℕ) wh
         → Mean shape factors low (name ∷ names) (place ∷ post) → firsts ≡ pre ++ place ∷ post → AllLess low pre
         → length pre ≡ length done → (c % shape.q == 0) ≡ false → Term first name done zs (c % shape.q) last
     a_term first name names place post pre done zs m c low last mean e less same other =
-        let q = shape.q in
-        let code : ℕ = c % q in
-        let below : code < q = mod-lt c some in
-        let positive : 0 < code = (let no_zero = eqb-false code 0 other in grind (arith, no_zero)) in
+        let code = c % shape.q in
+        let below = mod-lt c some in
         let at = at_word first name place pre post done zs last mean.1 mean.2 e
         (less_more low place pre mean.0 less) same in
         elim (cases_Bool (code == 1)) [
           | inl is ↦
-              let one : code ≡ 1 = eqb-true code 1 is in
-              subst (λ (k : ℕ). Term first name done zs k last) (sym one) (plain_term first name done zs last mean.1 at)
+              rw (eqb-true code 1 is) (plain_term first name done zs last mean.1 at)
           | inr more ↦
-              term_to_power first name done zs code last mean.1 more positive below (omega (arith, below, nine)) at
+              term_to_power first name done zs code last mean.1 more
+              (let no_zero = eqb-false code 0 other in grind (arith, no_zero)) below (omega arith) at
         ]
 
     behind_star : (names : List (List ℕ)) (post pre done : List ℕ) (m c low last : ℕ) (word : List ℕ) (r : Reading)
@@ -278,63 +264,56 @@ module _ (shape : Shape) (factors : List (List ℕ)) (rows firsts : List ℕ) wh
     behind_star [] (place ∷ post) pre done m c low last word r mean e less same long p = absurd mean
     behind_star (name ∷ names) [] pre done m c low last word r mean e less same long p = absurd mean
     behind_star (name ∷ names) (place ∷ post) pre done zero c low last word r mean e less same long p =
-        absurd (omega (arith, long))
+        absurd (omega arith)
     behind_star (name ∷ names) (place ∷ post) pre done (suc m) c low last word r mean e less same long p =
-        let q = shape.q in
-        let n : ℕ = length names in
-        let code : ℕ = c % q in
-        let rest : List (List ℕ) = terms names (digits q m (c / q)) in
+        let n = length names in
+        let code = c % shape.q in
+        let rest = terms names (digits shape.q m (c / shape.q)) in
         let more : List ℕ = done ++ code ∷ [] in
-        let whole : more ++ digits q n (c / q) ≡ done ++ (code ∷ digits q n (c / q)) =
-        append_assoc done (code ∷ []) (digits q n (c / q)) in
-        let split : firsts ≡ (pre ++ place ∷ []) ++ post = e ∙ sym (append_assoc pre (place ∷ []) post) in
-        let lower : AllLess (place + 1) (pre ++ place ∷ []) =
-        less_snoc (place + 1) place pre (omega arith) (less_more low (place + 1) pre (omega (arith, mean.0)) less) in
+        let whole =
+        append_assoc done (code ∷ []) (digits shape.q n (c / shape.q)) in
+        let split = e ∙ sym (append_assoc pre (place ∷ []) post) in
+        let lower =
+        less_snoc (place + 1) place pre (omega arith) (less_more low _ pre (omega arith) less) in
         let count : length (pre ++ place ∷ []) ≡ length more =
-        let a = length-append pre (place ∷ []) in let b = length-append done (code ∷ []) in omega (arith, a, b, same) in
+        let a = length-append pre (place ∷ []) in let b = length-append done (code ∷ []) in omega arith in
         elim (cases_Bool (code == 0)) [
           | inl is ↦
-              let none : code ≡ 0 = eqb-true code 0 is in
               let at : done ++ zeros (suc n) ≡ more ++ zeros n =
-              ap (λ (d : ℕ). done ++ d ∷ zeros n) (sym none) ∙ sym (append_assoc done (code ∷ []) (zeros n)) in
-              let now = subst (λ (l : List ℕ). Pending word r (bd l last)) at p in
-              let o = behind_star names post (pre ++ place ∷ []) more m (c / q) (place + 1) last word r mean.3 split
+              cc ((eqb-true code 0 is), append_assoc done (code ∷ []) (zeros n)) in
+              let now = rw at at p in
+              let o = behind_star names post (pre ++ place ∷ []) more m (c / shape.q) (place + 1) last word r mean.3
+              split
               lower
-              count (omega (arith, long)) now in
-              let text : remaining false rest ≡ remaining false (terms (name ∷ names) (digits q (suc m) c)) =
-              rw is refl in
+              count (omega arith) now in
+              let text : remaining false rest ≡ remaining false (terms (name ∷ names) (digits shape.q (suc m) c)) =
+              rw is in
               record {
                 stage = o.stage;
                 last = o.last;
-                moves = subst (λ (t : List ℕ). Moves factors word r (t ++ (mark ∷ [])) []
-                    (at_stage (after_rule o.stage) (bd (done ++ (code ∷ digits q n (c / q))) o.last))) text
-                    (subst (λ (l : List ℕ). Moves factors word r (remaining false rest ++ (mark ∷ [])) []
-                    (at_stage (after_rule o.stage) (bd l o.last))) whole o.moves);
+                moves = rw text at (rw whole at o.moves);
               }
           | inr other ↦
               let here = a_term false name names place post pre done (zeros n) m c low last mean e less same other in
-              let at : done ++ code ∷ zeros n ≡ more ++ zeros n = sym (append_assoc done (code ∷ []) (zeros n)) in
-              let now = subst (λ (l : List ℕ). Pending here.word here.reading (bd l (length done))) at here.pending in
-              let o = behind_star names post (pre ++ place ∷ []) more m (c / q) (place + 1) (length done) here.word
-              here.reading mean.3 split lower count (omega (arith, long)) now in
-              let end = at_stage (after_rule o.stage) (bd (more ++ digits q n (c / q)) o.last) in
-              let first = star word r (bd (done ++ 0 ∷ zeros n) last) p in
+              let now = rw (sym (append_assoc done (code ∷ []) (zeros n))) at here.pending in
+              let o = behind_star names post (pre ++ place ∷ []) more m (c / shape.q) (place + 1) (length done)
+              here.word
+              here.reading mean.3 split lower count (omega arith) now in
+              let end = at_stage (after_rule o.stage) (bd (more ++ digits shape.q n (c / shape.q)) o.last) in
               let over =
               moves_on factors word [] [] r _ end (codes "*")
               (term name code ++ (remaining false rest ++ (mark ∷ [])))
-              first (moves_on factors [] here.word [] _ here.reading end (term name code)
+              (star word r (bd (done ++ 0 ∷ zeros n) last) p)
+              (moves_on factors [] here.word [] _ here.reading end (term name code)
               (remaining false rest ++ (mark ∷ []))
               here.moves o.moves) in
               let text : codes "*" ++ (term name code ++ (remaining false rest ++ (mark ∷ [])))
-              ≡ remaining false (terms (name ∷ names) (digits q (suc m) c)) ++ (mark ∷ []) =
-              rw other (ap (λ (t : List ℕ). codes "*" ++ t)
-              (sym (append_assoc (term name code) (remaining false rest) ((mark ∷ []))))) in
+              ≡ remaining false (terms (name ∷ names) (digits shape.q (suc m) c)) ++ (mark ∷ []) =
+              rw other (cc (append_assoc (term name code) (remaining false rest) ((mark ∷ [])))) in
               record {
                 stage = o.stage;
                 last = o.last;
-                moves = subst (λ (t : List ℕ). Moves factors word r t []
-                    (at_stage (after_rule o.stage) (bd (done ++ (code ∷ digits q n (c / q))) o.last))) text
-                    (subst (λ (l : List ℕ). Moves factors word r
+                moves = rw (← text) (subst (λ l. Moves factors word r
                     (codes "*" ++ (term name code ++ (remaining false rest ++ (mark ∷ [])))) []
                     (at_stage (after_rule o.stage) (bd l o.last))) whole over);
               }
@@ -351,68 +330,58 @@ module _ (shape : Shape) (factors : List (List ℕ)) (rows firsts : List ℕ) wh
         record {
           stage = None;
           last = last;
-          moves = moves_on factors [] (codes "0") [] start start (at_stage stage.Whole (bd (done ++ []) last))
+          moves = moves_on factors [] _ [] start start _
               (codes "0")
               ((mark ∷ [])) (letters factors (codes "0") start refl)
               (closes factors 48 mark [] start (at_stage stage.Whole (bd (done ++ []) last))
-              (at_stage stage.Whole (bd (done ++ []) last)) out refl refl (rw (out, white) refl));
+              (at_stage stage.Whole (bd (done ++ []) last)) out refl refl (rw (out, white)));
         }
     behind_equals [] (place ∷ post) pre done m c low last mean e less same long = absurd mean
     behind_equals (name ∷ names) [] pre done m c low last mean e less same long = absurd mean
     behind_equals (name ∷ names) (place ∷ post) pre done zero c low last mean e less same long =
-        absurd (omega (arith, long))
+        absurd (omega arith)
     behind_equals (name ∷ names) (place ∷ post) pre done (suc m) c low last mean e less same long =
-        let q = shape.q in
-        let n : ℕ = length names in
-        let code : ℕ = c % q in
-        let rest : List (List ℕ) = terms names (digits q m (c / q)) in
+        let n = length names in
+        let code = c % shape.q in
+        let rest = terms names (digits shape.q m (c / shape.q)) in
         let more : List ℕ = done ++ code ∷ [] in
-        let whole : more ++ digits q n (c / q) ≡ done ++ (code ∷ digits q n (c / q)) =
-        append_assoc done (code ∷ []) (digits q n (c / q)) in
-        let split : firsts ≡ (pre ++ place ∷ []) ++ post = e ∙ sym (append_assoc pre (place ∷ []) post) in
-        let lower : AllLess (place + 1) (pre ++ place ∷ []) =
-        less_snoc (place + 1) place pre (omega arith) (less_more low (place + 1) pre (omega (arith, mean.0)) less) in
+        let whole =
+        append_assoc done (code ∷ []) (digits shape.q n (c / shape.q)) in
+        let split = e ∙ sym (append_assoc pre (place ∷ []) post) in
+        let lower =
+        less_snoc (place + 1) place pre (omega arith) (less_more low _ pre (omega arith) less) in
         let count : length (pre ++ place ∷ []) ≡ length more =
-        let a = length-append pre (place ∷ []) in let b = length-append done (code ∷ []) in omega (arith, a, b, same) in
+        let a = length-append pre (place ∷ []) in let b = length-append done (code ∷ []) in omega arith in
         let start = at_stage stage.First (bd (done ++ 0 ∷ zeros n) last) in
         elim (cases_Bool (code == 0)) [
           | inl is ↦
-              let none : code ≡ 0 = eqb-true code 0 is in
               let at : more ++ zeros n ≡ done ++ zeros (suc n) =
-              append_assoc done (code ∷ []) (zeros n) ∙ ap (λ (d : ℕ). done ++ d ∷ zeros n) none in
-              let o = behind_equals names post (pre ++ place ∷ []) more m (c / q) (place + 1) last mean.3 split lower
-              count (omega (arith, long)) in
-              let text : remaining true rest ≡ remaining true (terms (name ∷ names) (digits q (suc m) c)) =
-              rw is refl in
+              cc (append_assoc done (code ∷ []) (zeros n), (eqb-true code 0 is)) in
+              let o = behind_equals names post (pre ++ place ∷ []) more m (c / shape.q) (place + 1) last mean.3 split
+              lower
+              count (omega arith) in
+              let text : remaining true rest ≡ remaining true (terms (name ∷ names) (digits shape.q (suc m) c)) =
+              rw is in
               record {
                 stage = o.stage;
                 last = o.last;
-                moves = subst (λ (t : List ℕ). Moves factors [] start (t ++ (mark ∷ [])) []
-                    (at_stage (after_rule o.stage) (bd (done ++ (code ∷ digits q n (c / q))) o.last))) text
-                    (subst (λ (l : List ℕ). Moves factors [] start (remaining true rest ++ (mark ∷ [])) []
-                    (at_stage (after_rule o.stage) (bd l o.last))) whole
-                    (subst (λ (l : List ℕ). Moves factors [] (at_stage stage.First (bd l last))
-                    (remaining true rest ++ (mark ∷ [])) []
-                    (at_stage (after_rule o.stage) (bd (more ++ digits q n (c / q)) o.last))) at o.moves));
+                moves = rw text at (rw whole at (rw at at o.moves));
               }
           | inr other ↦
               let here = a_term true name names place post pre done (zeros n) m c low last mean e less same other in
-              let at : done ++ code ∷ zeros n ≡ more ++ zeros n = sym (append_assoc done (code ∷ []) (zeros n)) in
-              let now = subst (λ (l : List ℕ). Pending here.word here.reading (bd l (length done))) at here.pending in
-              let o = behind_star names post (pre ++ place ∷ []) more m (c / q) (place + 1) (length done) here.word
-              here.reading mean.3 split lower count (omega (arith, long)) now in
-              let end = at_stage (after_rule o.stage) (bd (more ++ digits q n (c / q)) o.last) in
+              let now = rw (sym (append_assoc done (code ∷ []) (zeros n))) at here.pending in
+              let o = behind_star names post _ more m (c / shape.q) _ _ here.word
+              here.reading mean.3 split lower count (omega arith) now in
+              let end = at_stage (after_rule o.stage) (bd (more ++ digits shape.q n (c / shape.q)) o.last) in
               let over = moves_on factors [] here.word [] start here.reading end (term name code)
-              (remaining false rest ++ (mark ∷ [])) here.moves o.moves in
+              _ here.moves o.moves in
               let text : term name code ++ (remaining false rest ++ (mark ∷ []))
-              ≡ remaining true (terms (name ∷ names) (digits q (suc m) c)) ++ (mark ∷ []) =
+              ≡ remaining true (terms (name ∷ names) (digits shape.q (suc m) c)) ++ (mark ∷ []) =
               rw other (sym (append_assoc (term name code) (remaining false rest) ((mark ∷ [])))) in
               record {
                 stage = o.stage;
                 last = o.last;
-                moves = subst (λ (t : List ℕ). Moves factors [] start t []
-                    (at_stage (after_rule o.stage) (bd (done ++ (code ∷ digits q n (c / q))) o.last))) text
-                    (subst (λ (l : List ℕ). Moves factors [] start
+                moves = rw (← text) (subst (λ l. Moves factors [] start
                     (term name code ++ (remaining false rest ++ (mark ∷ []))) []
                     (at_stage (after_rule o.stage) (bd l o.last))) whole over);
               }

@@ -21,7 +21,7 @@ use Rattle.fx_rules.specs.Building.{nothing_built}
 use Rattle.fx_rules.specs.Reading.{at_stage, is_formed, is_name_byte, matrix_in, matrix_of_rules}
 use Rattle.fx_rules.specs.TableLines.{IsOfTable, MeanNumbers, TableWayBack, factor_name, first_names, rule_text}
 use Rattle.fx_rules.specs.TableLines.{rules_from}
-use Rattle.fx_rules.proofs.Moving.{Moves, closes, is_one, letters, moves_on}
+use Rattle.fx_rules.proofs.Moving.{closes, is_one, letters, moves_on}
 use Rattle.fx_rules.proofs.ReadProducts.{IsWord, Mean}
 use Rattle.fx_rules.proofs.ReadLines.{Completed, Ready, Reached, at_end, over_line, short_rule_read, unsaid}
 use Rattle.fx_rules.proofs.ReadNames.{each_passes, each_below}
@@ -39,22 +39,27 @@ chunks q m k (row ∷ next ∷ rows) = chunk q m k row 32 ++ chunks q m (k + 1) 
 
 regroup : (a p c : List ℕ) (x : ℕ) → (a ++ (61 ∷ p)) ++ (x ∷ c) ≡ (a ++ (61 ∷ (p ++ x ∷ []))) ++ c
 regroup a p c x =
-    append_assoc a (61 ∷ p) (x ∷ c) ∙ (ap (λ (l : List ℕ). a ++ (61 ∷ l)) (sym (append_assoc p (x ∷ []) c))
-    ∙ sym (append_assoc a (61 ∷ (p ++ x ∷ [])) c))
+    cc (append_assoc a (61 ∷ p) (x ∷ c), append_assoc p (x ∷ []) c, append_assoc a (61 ∷ (p ++ x ∷ [])) c)
 
 same_text : (q m k row : ℕ) (rows : List ℕ)
     → rules_from q m k (row ∷ rows) ++ codes "\n" ≡ 32 ∷ chunks q m k (row ∷ rows)
 unfolding chunks
 same_text q m k row [] =
     let p = product (first_names m) (digits q m row) in
-    ap (λ (l : List ℕ). l ++ codes "\n") (append-nil (rule_text q m k row))
-    ∙ ap (λ (l : List ℕ). 32 ∷ l)
-    (regroup (factor_name k) p [] 10 ∙ append-nil (factor_name k ++ (61 ∷ (p ++ 10 ∷ []))))
+    cc (
+      append-nil (rule_text q m k row),
+      regroup (factor_name k) p [] 10,
+      append-nil
+          (factor_name k ++ (61 ∷ (p ++ 10 ∷ []))),
+    )
 same_text q m k row (next ∷ rows) =
-    let p = product (first_names m) (digits q m row) in
-    append_assoc (rule_text q m k row) (rules_from q m (k + 1) (next ∷ rows)) (codes "\n")
-    ∙ (ap (λ (l : List ℕ). rule_text q m k row ++ l) (same_text q m (k + 1) next rows)
-    ∙ ap (λ (l : List ℕ). 32 ∷ l) (regroup (factor_name k) p (chunks q m (k + 1) (next ∷ rows)) 32))
+    cc (
+      append_assoc (rule_text q m k row) (rules_from q m (k + 1) (next ∷ rows)) (codes "\n"),
+      same_text q m (k + 1)
+          next rows,
+      regroup (factor_name k) (product (first_names m) (digits q m row)) (chunks q m (k + 1) (next ∷ rows))
+          32,
+    )
 
 -- the names of 63 factors are words
 abbrev is_word : ℕ → Bool
@@ -67,8 +72,8 @@ all_words = refl
 name_word : (k : ℕ) → k < 63 → IsWord (factor_name (k + 1))
 name_word k low = record {
   some = omega arith;
-  bytes = (and_parts (is_one (factor_name (k + 1))) _ (each_passes is_word 63 k all_words low)).0;
-  formed = (and_parts (is_one (factor_name (k + 1))) _ (each_passes is_word 63 k all_words low)).1;
+  bytes = (and_parts _ _ (each_passes is_word 63 k all_words low)).0;
+  formed = (and_parts _ _ (each_passes is_word 63 k all_words low)).1;
   no_zero = refl;
   no_none = refl;
   no_run = refl;
@@ -88,12 +93,12 @@ module _ (shape : Shape) (factors : List (List ℕ)) where
   unfolding units
   length-units zero = refl
   length-units (suc n) =
-      let a = length-append (units shape.q n) (shape.q ^ n ∷ []) in let b = length-units n in omega (arith, a, b)
+      let a = length-append (units shape.q n) (shape.q ^ n ∷ []) in let b = length-units n in omega arith
 
   length-places : (n : ℕ) → length (places n) ≡ n
   unfolding places
   length-places zero = refl
-  length-places (suc n) = let a = length-append (places n) (n ∷ []) in let b = length-places n in omega (arith, a, b)
+  length-places (suc n) = let a = length-append (places n) (n ∷ []) in let b = length-places n in omega arith
 
   -- the first n factors have no rule
   ready_units : (n : ℕ) → n ≤ shape.m → n ≤ shape.s + shape.t
@@ -109,8 +114,9 @@ module _ (shape : Shape) (factors : List (List ℕ)) where
       unsaid shape factors front n (units shape.q n) (places n) a (omega (arith, b, low)) (omega (arith, fits))
       before in
       let count : n + 1 ≡ suc n = omega arith in
-      subst (λ (k : ℕ). Ready shape factors front k (units shape.q n ++ shape.q ^ n ∷ []) (places n ++ n ∷ [])) count
-      (subst (λ (k : ℕ). Ready shape factors front (n + 1) (units shape.q n ++ shape.q ^ k ∷ []) (places n ++ n ∷ [])) b
+      rw (← count)
+      (subst (λ (k : ℕ). Ready shape factors front (n + 1) (units shape.q n ++ shape.q ^ k ∷ []) (places n ++ n ∷ []))
+      b
       next)
 
   mean_numbers : (n low : ℕ) → MeanNumbers shape factors → low + n ≤ shape.s → shape.s ≤ 63
@@ -118,29 +124,31 @@ module _ (shape : Shape) (factors : List (List ℕ)) where
   mean_numbers zero low h fits few = tt
   mean_numbers (suc n) low h fits few = (
     omega arith,
-    name_word low (omega (arith, fits, few)),
-    h low (omega (arith, fits)),
-    mean_numbers n (low + 1) h (omega (arith, fits)) few,
+    name_word low (omega arith),
+    h low (omega arith),
+    mean_numbers n (low + 1) h (omega arith) few,
   )
 
   places_are : (n : ℕ) → places n ≡ range_with_len 0 n
   unfolding places
   places_are zero = refl
-  places_are (suc n) = ap (λ (l : List ℕ). l ++ n ∷ []) (places_are n) ∙ sym (range_more 0 n n (omega arith))
+  places_are (suc n) = cc (places_are n, range_more 0 n n (omega arith))
     where
       range_more : (a n k : ℕ) → a + n ≡ k → range_with_len a (suc n) ≡ range_with_len a n ++ k ∷ []
-      range_more a zero k e = let same : a ≡ k = omega (arith, e) in ap (λ (c : ℕ). c ∷ []) same
-      range_more a (suc n) k e = ap (λ (l : List ℕ). a ∷ l) (range_more (a + 1) n k (omega (arith, e)))
+      range_more a zero k e = let same : a ≡ k = omega arith in cc
+      range_more a (suc n) k e = cc (range_more (a + 1) n k (omega arith))
 
   units_are : (q n : ℕ) (rows : List ℕ) → n ≤ length rows → ((k : ℕ) → k < n → get_or rows k 0 ≡ q ^ k)
       → take n rows ≡ units q n
   unfolding units
   units_are q zero rows fits h = refl
   units_are q (suc n) rows fits h =
-      take-suc rows n 0 (omega (arith, fits))
-      ∙ (ap (λ (l : List ℕ). l ++ get_or rows n 0 ∷ [])
-      (units_are q n rows (omega (arith, fits)) (λ k low. h k (omega (arith, low))))
-      ∙ ap (λ (c : ℕ). units q n ++ c ∷ []) (h n (omega arith)))
+      cc (
+        take-suc rows n 0 (omega arith),
+        units_are q n rows (omega arith) (λ k low. h k (omega arith)),
+        h n
+            (omega arith),
+      )
 
   one_read : (row p mark : ℕ) (rows firsts : List ℕ) (r : Reading) → IsShape shape → MeanNumbers shape factors
       → Mean shape factors 0 (first_names shape.m) firsts → shape.t ≡ 0 → length rows ≡ p → p < shape.s
@@ -148,12 +156,11 @@ module _ (shape : Shape) (factors : List (List ℕ)) where
       → Reached shape factors r (chunk shape.q shape.m (p + 1) row mark) (p + 1) (rows ++ row ∷ []) firsts
   one_read row p mark rows firsts r sh numbers mean blocks long low out white below h =
       let bounds = order-bounds shape.q sh.order in
-      let factor_bound : shape.s ≤ 63 = sh.factors in
-      let names : length (first_names shape.m) ≡ shape.m =
+      let names =
       length-map (range_with_len 1 shape.m) factor_name ∙ length-range_with_len 1 shape.m in
-      short_rule_read shape factors r p row shape.m mark rows firsts (factor_name (p + 1)) (first_names shape.m)
-      (name_word p (omega (arith, low, factor_bound))) out white (numbers p low) mean long (omega (arith, low))
-      (omega (arith, bounds.0)) bounds.1 (subst (λ (n : ℕ). row < shape.q ^ n) (sym names) below) (omega (arith, names))
+      short_rule_read shape factors r p row shape.m mark rows firsts _ _
+      (name_word p (omega arith)) out white (numbers p low) mean long (omega arith)
+      (omega arith) bounds.1 (rw (← names) at below) (omega arith)
       h
 
   -- the rules of the factors from place p on
@@ -198,10 +205,10 @@ module _ (shape : Shape) (factors : List (List ℕ)) where
   headed mark out white text rows c =
       let head = at_stage stage.Head (nothing_built shape) in
       let front = at_stage stage.Front (nothing_built shape) in
-      let moves : Moves factors [] head (codes "rules" ++ (mark ∷ [])) [] front =
-      moves_on factors [] (codes "rules") [] head head front (codes "rules") (mark ∷ [])
+      let moves =
+      moves_on factors [] _ [] head head front (codes "rules") (mark ∷ [])
       (letters factors (codes "rules") head refl)
-      (closes factors 114 mark (codes "ules") head front front out refl refl (rw (out, white) refl)) in
+      (closes factors 114 mark (codes "ules") head front front out refl refl (rw (out, white))) in
       record {
         built = c.built;
         shape_is = c.shape_is;
@@ -218,10 +225,7 @@ module _ (shape : Shape) (factors : List (List ℕ)) where
   unfolding chunks
   text_read [] rows c = headed 10 refl refl [] rows c
   text_read (row ∷ left) rows c =
-      let text = same_text shape.q shape.m (shape.m + 1) row left in
-      subst (λ (t : List ℕ). Completed shape factors (at_stage stage.Head (nothing_built shape)) (codes "rules" ++ t)
-      rows)
-      (sym text) (headed 32 refl refl (chunks shape.q shape.m (shape.m + 1) (row ∷ left)) rows c)
+      rw (same_text shape.q shape.m (shape.m + 1) row left) (headed 32 refl refl _ rows c)
 
   pub table_way_back : (rows : List ℕ) → MeanNumbers shape factors → IsOfTable shape rows
       → TableWayBack shape factors rows
@@ -230,20 +234,17 @@ module _ (shape : Shape) (factors : List (List ℕ)) where
       let sh = table.matrix.shaped in
       let m = shape.m in
       let left = drop m rows in
-      let first : take m rows ≡ units shape.q m =
-      units_are shape.q m rows (omega (arith, table.enough, table.whole)) table.units in
       let split : units shape.q m ++ left ≡ rows =
-      ap (λ (l : List ℕ). l ++ left) (sym first) ∙ take-append-drop m rows in
+      cc ((units_are shape.q m rows (omega arith) table.units), take-append-drop m rows) in
       let fits : m + length left ≡ shape.s =
-      let l = length-drop m rows in omega (arith, l, table.whole, table.enough) in
-      let mean : Mean shape factors 0 (first_names m) (places m) =
-      subst (λ (l : List ℕ). Mean shape factors 0 (first_names m) l) (sym (places_are m))
-      (mean_numbers m 0 numbers (omega (arith, table.enough)) sh.factors) in
-      let ready = ready_units m (omega arith) (omega (arith, table.enough)) in
-      let all = rules_read left m (units shape.q m) (places m) (at_stage stage.Front (nothing_built shape)) sh numbers
+      let l = length-drop m rows in omega arith in
+      let mean =
+      rw (← (places_are m)) at (mean_numbers m 0 numbers (omega arith) sh.factors) in
+      let ready = ready_units m (omega arith) (omega arith) in
+      let all = rules_read left m (units shape.q m) (places m) _ sh numbers
       mean
       table.unblocked (length-units m) fits (all_drop m rows table.matrix.below) ready in
       let read = text_read left (units shape.q m ++ left) all in
       ap matrix_in (read.read 0)
-      ∙ (ap (λ (z : Shape). Ok (record { shape = z; rows = read.built.rows })) read.shape_is
-      ∙ ap (λ (l : List ℕ). Ok (record { shape = shape; rows = l })) (read.rows_are ∙ split))
+      ∙ (ap (λ z. Ok (record { shape = z; rows = read.built.rows })) read.shape_is
+      ∙ ap (λ l. Ok (record { shape = shape; rows = l })) (read.rows_are ∙ split))

@@ -1,7 +1,7 @@
 -- Steps of the loop over the bytes of a text of rules.
-use Rattle.std.proofs.Common.{ℕ, ◌≡◌, ◌<◌, ◌≤◌, ◌+◌, ◌-◌, suc, Bool, true, false, List, [], ◌∷◌, ◌++◌, length, take}
+use Rattle.std.proofs.Common.{ℕ, ◌≡◌, ◌<◌, ◌≤◌, ◌+◌, ◌-◌, suc, true, false, List, [], ◌∷◌, ◌++◌, length, take}
 use Rattle.std.proofs.Common.{drop}
-use Rattle.std.proofs.Common.{get_or, refl, sym, ap, ◌∙◌, arith, inl, inr, drop-cons, take-suc, length-drop}
+use Rattle.std.proofs.Common.{get_or, sym, ap, ◌∙◌, arith, inl, inr, drop-cons, take-suc, length-drop}
 use Rattle.std.proofs.lemmas.List.{get_or-drop}
 use Rattle.std.specs.Prelude.{Result, Ok, if◌then◌else◌}
 use Rattle.std.proofs.lemmas.Bool.{cases_Bool}
@@ -22,21 +22,16 @@ module _ (factors : List (List ℕ)) (text : List ℕ) (whole : Result Built Rul
   word_goes_on r from i low is h =
       let b = get_or text i 0 in
       let word = take (i - from) (drop from text) in
-      let split : drop i text ≡ b ∷ drop (suc i) text = drop-cons text i 0 low in
-      let long : i - from < length (drop from text) = omega (arith, length-drop from text, low, h.0) in
       let same : get_or (drop from text) (i - from) 0 ≡ b =
-      get_or-drop from text (i - from) 0 ∙ ap (λ (k : ℕ). get_or text k 0) (omega (arith, h.0)) in
-      let more : take (suc (i - from)) (drop from text) ≡ word ++ b ∷ [] =
-      take-suc (drop from text) (i - from) 0 long ∙ ap (λ (c : ℕ). word ++ c ∷ []) same in
-      let count : i + 1 - from ≡ suc (i - from) = omega (arith, h.0) in
+      get_or-drop from text (i - from) 0 ∙ ap (λ k. get_or text k 0) (omega arith) in
+      let more =
+      take-suc (drop from text) (i - from) 0 (omega (arith, length-drop from text)) ∙ ap (λ c. word ++ c ∷ []) same in
+      let count : i + 1 - from ≡ suc (i - from) = omega arith in
       let next : i + 1 ≡ suc i = omega arith in
       let step : read_on factors word i (b ∷ drop (suc i) text) r
-      ≡ read_on factors (word ++ b ∷ []) (i + 1) (drop (suc i) text) r = rw is refl in (
-        omega (arith, h.0),
-        ap (λ (k : ℕ). read_on factors (take k (drop from text)) (i + 1) (drop (i + 1) text) r) count
-            ∙ (ap (λ (w : List ℕ). read_on factors w (i + 1) (drop (i + 1) text) r) more
-            ∙ (ap (λ (k : ℕ). read_on factors (word ++ b ∷ []) (i + 1) (drop k text) r) next
-            ∙ (sym step ∙ (ap (λ (l : List ℕ). read_on factors word i l r) (sym split) ∙ h.1)))),
+      ≡ read_on factors (word ++ b ∷ []) (i + 1) (drop (suc i) text) r = rw is in (
+        omega arith,
+        cc (drop-cons text i 0 low),
       )
 
   -- the word that the byte at i begins
@@ -44,18 +39,17 @@ module _ (factors : List (List ℕ)) (text : List ℕ) (whole : Result Built Rul
       → (to ≤ i + 1) × (take (i + 1 - to) (drop to text) ≡ begun_by (get_or text i 0))
   begun_at to i low e = elim (cases_Bool (is_name_byte (get_or text i 0))) [
     | inl is ↦
-        let here : to ≡ i = e ∙ ap (λ (b : Bool). if b then i else i + 1) is in
+        let here : to ≡ i = cc in
         let one : i + 1 - i ≡ 1 = omega arith in
-        let split : drop i text ≡ get_or text i 0 ∷ drop (suc i) text = drop-cons text i 0 low in
         rw here (
           omega arith,
-          ap (λ (k : ℕ). take k (drop i text)) one ∙
-              (ap (λ (l : List ℕ). take 1 l) split ∙ rw is refl),
+          ap (λ k. take k (drop i text)) one ∙
+              (ap (take 1) (drop-cons text i 0 low) ∙ rw is),
         )
     | inr other ↦
-        let here : to ≡ i + 1 = e ∙ ap (λ (b : Bool). if b then i else i + 1) other in
+        let here : to ≡ i + 1 = cc in
         let none : i + 1 - (i + 1) ≡ 0 = omega arith in
-        rw here (omega arith, ap (λ (k : ℕ). take k (drop (i + 1) text)) none ∙ rw other refl)
+        rw here (omega arith, ap (λ k. take k (drop (i + 1) text)) none ∙ rw other)
   ]
 
   pub word_ends : (r next : Reading) (from to i : ℕ) → i < length text
@@ -66,14 +60,11 @@ module _ (factors : List (List ℕ)) (text : List ℕ) (whole : Result Built Rul
   word_ends r next from to i low is e begins h =
       let b = get_or text i 0 in
       let word = take (i - from) (drop from text) in
-      let split : drop i text ≡ b ∷ drop (suc i) text = drop-cons text i 0 low in
       let more : i + 1 ≡ suc i = omega arith in
       let back = sym e in
       let begun = begun_at to i low begins in
       let step : read_on factors word i (b ∷ drop (suc i) text) r
-      ≡ read_on factors (begun_by b) (i + 1) (drop (suc i) text) next = rw (is, back) refl in (
+      ≡ read_on factors (begun_by b) (i + 1) (drop (suc i) text) next = rw (is, back) in (
         begun.0,
-        ap (λ (w : List ℕ). read_on factors w (i + 1) (drop (i + 1) text) next) begun.1
-            ∙ (ap (λ (k : ℕ). read_on factors (begun_by b) (i + 1) (drop k text) next) more
-            ∙ (sym step ∙ (ap (λ (l : List ℕ). read_on factors word i l r) (sym split) ∙ h.1))),
+        cc (drop-cons text i 0 low),
       )

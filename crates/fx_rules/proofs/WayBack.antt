@@ -1,6 +1,6 @@
 -- What is printed of the rules of a matrix is read as this matrix.
 use Rattle.std.proofs.Common.{ℕ, ◌≡◌, ◌+◌, List, [], ◌∷◌, length, map}
-use Rattle.std.proofs.Common.{refl, ap, ◌∙◌, arith, rules, length-append}
+use Rattle.std.proofs.Common.{refl, ◌∙◌, arith, rules, length-append}
 use Rattle.std.specs.Prelude.{Result, Ok, Err, codes}
 use Rattle.std.specs.List.{range_with_len}
 use Rattle.std.proofs.lemmas.List.{length-map}
@@ -12,8 +12,8 @@ use Rattle.fx_components.specs.Lines.{or_none}
 use Rattle.fx_alias.specs.Rules.{block_factor, block_name, block_names, factor, rule_lines, rules_section, subjects}
 use Rattle.fx_rules.specs.declared.problem.Problem.{Problem}
 use Rattle.fx_rules.specs.declared.reading.Stage.TheVariants as stage
-use Rattle.fx_rules.specs.Building.{Built, completed, nothing_built}
-use Rattle.fx_rules.specs.Reading.{at_stage, matrix_in, matrix_of_rules, placed, read_on, worded_at}
+use Rattle.fx_rules.specs.Building.{Built, nothing_built}
+use Rattle.fx_rules.specs.Reading.{at_stage, matrix_of_rules, placed, read_on}
 use Rattle.fx_rules.specs.Laws.{AreFactors, IsGiven, WayBack}
 use Rattle.fx_rules.proofs.Moving.{Moves, closes, letters, moves_on, passes}
 use Rattle.fx_rules.proofs.ReadLines.{Completed, Known, Ready, Sound, all_read}
@@ -23,7 +23,7 @@ module _ (shape : Shape) (factors : List (List ℕ)) where
   pub front_ready : Ready shape factors (at_stage stage.Front (nothing_built shape)) 0 [] []
   front_ready = record {
     base = nothing_built shape;
-    opens = λ place word w e. (let none = w.no_none in rw (none, e) refl);
+    opens = λ place word w e. (rw (w.no_none, e));
     ends = refl;
     shape_is = refl;
     behind = omega arith;
@@ -38,7 +38,7 @@ module _ (shape : Shape) (factors : List (List ℕ)) where
   head_read =
       let head = at_stage stage.Head (nothing_built shape) in
       let front = at_stage stage.Front (nothing_built shape) in
-      moves_on factors [] (codes "rules") [] head head front (codes "rules") (codes "\n")
+      moves_on factors [] _ [] head head front (codes "rules") (codes "\n")
       (letters factors (codes "rules") head refl)
       (closes factors 114 10 (codes "ules") head front front refl refl refl refl)
 
@@ -48,13 +48,12 @@ module _ (shape : Shape) (factors : List (List ℕ)) where
   none_read =
       let front = at_stage stage.Front (nothing_built shape) in
       let nothing = at_stage stage.Nothing (nothing_built shape) in
-      let word : worded_at stage.Front factors (codes "none") (nothing_built shape) ≡ Ok nothing = refl in
       moves_on factors [] [] [] front front nothing (codes "  ") (codes "none\n")
       (moves_on factors [] [] [] front front front (codes " ") (codes " ") (passes factors 32 front front refl refl)
       (passes factors 32 front front refl refl))
-      (moves_on factors [] (codes "none") [] front front nothing (codes "none") (codes "\n")
+      (moves_on factors [] _ [] front front nothing (codes "none") (codes "\n")
       (letters factors (codes "none") front refl)
-      (closes factors 110 10 (codes "one") front nothing nothing refl refl word refl))
+      (closes factors 110 10 (codes "one") front nothing nothing refl refl refl refl))
 
   -- no problem has no place
   elsewhere : (a b : ℕ) (x : Result Built Problem) (built : Built) → placed a x ≡ Ok built → placed b x ≡ Ok built
@@ -69,7 +68,7 @@ module _ (shape : Shape) (factors : List (List ℕ)) where
     rows_are = c.rows_are;
     read = λ at.
         (let m = none_read [] at in
-        m.1 ∙ elsewhere at m.0 (completed (nothing_built shape)) c.built (c.read at));
+        cc (elsewhere at m.0 _ c.built (c.read at)));
   }
   lines_read (b ∷ lines) rows c = c
 
@@ -79,7 +78,7 @@ module _ (shape : Shape) (factors : List (List ℕ)) where
       let sh = given.matrix.shaped in
       let bounds = order-bounds shape.q sh.order in
       let sound : Sound shape factors = record {
-        some = omega (arith, bounds.0);
+        some = omega arith;
         nine = bounds.1;
         ten = indexes_fit shape sh;
       } in
@@ -88,16 +87,14 @@ module _ (shape : Shape) (factors : List (List ℕ)) where
       length-append (map factor factors) (map block_factor (block_names shape.t))
       ∙ (let a = length-map factors factor in let b = length-map (block_names shape.t) block_factor in
       let c = length-map (range_with_len 1 shape.t) block_name in let e = length-range_with_len 1 shape.t in
-      omega (arith, a, b, c, e, names.count)) in
+      omega arith) in
       let known : Known shape factors 0 [] [] [] = record { long = refl; few = omega arith; mean = tt; less = tt } in
       let all = all_read shape factors sound subs rows 0 [] [] [] (at_stage stage.Front (nothing_built shape))
-      (subjects_are shape factors sh names) (omega (arith, many, given.whole)) given.matrix.below given.stepped known
+      (subjects_are shape factors sh names) (omega arith) given.matrix.below given.stepped known
       front_ready in
       let lines = lines_read (rule_lines shape.q shape.m [] subs rows) rows all in
-      let text : List ℕ = or_none (rule_lines shape.q shape.m [] subs rows) in
+      let text = or_none (rule_lines shape.q shape.m [] subs rows) in
       let front = head_read text 0 in
       let read : read_on factors [] 0 (rules_section (dimensions_of shape) factors rows)
-      (at_stage stage.Head (nothing_built shape)) ≡ Ok lines.built = front.1 ∙ lines.read front.0 in
-      ap matrix_in read
-      ∙ (ap (λ (z : Shape). Ok (record { shape = z; rows = lines.built.rows })) lines.shape_is
-      ∙ ap (λ (l : List ℕ). Ok (record { shape = shape; rows = l })) lines.rows_are)
+      (at_stage stage.Head (nothing_built shape)) ≡ Ok lines.built = cc (lines.read front.0) in
+      cc (read, lines.shape_is, lines.rows_are)

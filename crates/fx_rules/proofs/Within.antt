@@ -38,7 +38,7 @@ among text (Some at) (i ∷ lines) r b = elim (cases_Bool (begins_step (drop i t
 
 later : (n m : ℕ) (lines : List ℕ) → n ≤ m → NotBefore m lines → NotBefore n lines
 later n m [] low h = tt
-later n m (i ∷ lines) low h = (let a = h.0 in omega (arith, low, a), later n m lines low h.1)
+later n m (i ∷ lines) low h = (omega arith, later n m lines low h.1)
 
 -- lines stand where they are looked for
 from_here : (fresh : Bool) (k : ℕ) (text : List ℕ) → NotBefore k (lines_from fresh k text)
@@ -51,18 +51,17 @@ behind_blanks : (k : ℕ) (text : List ℕ) → NotBefore (k + prefix_len is_bla
 behind_blanks k [] = tt
 behind_blanks k (b ∷ text) = elim (cases_Bool (is_blank b)) [
   | inl white ↦
-      let inner : (b == 10) ≡ false = no_feed b white in
+      let inner = no_feed b white in
       let more = later (k + (1 + prefix_len is_blank text)) (k + 1 + prefix_len is_blank text) _ (omega arith)
       (behind_blanks (k + 1) text) in
       rw (white, inner) more
-  | inr other ↦ rw other (later (k + 0) (k + 1) _ (omega arith) (from_here (b == 10) (k + 1) text))
+  | inr other ↦ rw other (later _ (k + 1) _ (omega arith) (from_here (b == 10) (k + 1) text))
 ]
   where
     no_feed : (b : ℕ) → is_blank b ≡ true → (b == 10) ≡ false
     no_feed b white = elim (cases_Bool (b == 10)) [
       | inl is ↦
-          let e : b ≡ 10 = eqb-true b 10 is in
-          let wrong : false ≡ true = subst (λ (c : ℕ). is_blank c ≡ true) e white in
+          let wrong = rw (eqb-true b 10 is) at white in
           absurd (search (rules, wrong))
       | inr other ↦ other
     ]
@@ -71,23 +70,22 @@ behind_blanks k (b ∷ text) = elim (cases_Bool (is_blank b)) [
 lines_rise : (text : List ℕ) (n k : ℕ) (fresh : Bool) → k + n ≡ length text
     → Rising text (lines_from fresh k (drop k text))
 lines_rise text zero k fresh long =
-    let none : drop k text ≡ [] = drop_all k text (omega (arith, long)) in
+    let none = drop_all k text (omega arith) in
     rw none tt
 lines_rise text (suc n) k fresh long =
-    let low : k < length text = omega (arith, long) in
+    let low : k < length text = omega arith in
     let split = drop-cons text k 0 low in
     let b : ℕ = get_or text k 0 in
     let rest = drop (suc k) text in
     let more : Rising text (lines_from (b == 10) (k + 1) rest) =
     (let e : suc k ≡ k + 1 = omega arith in
-    subst (λ (j : ℕ). Rising text (lines_from (b == 10) (k + 1) (drop j text))) (sym e)
-    (lines_rise text n (k + 1) (b == 10) (omega (arith, long)))) in
+    subst (λ j. Rising text (lines_from (b == 10) (k + 1) (drop j text))) (sym e)
+    (lines_rise text n (k + 1) (b == 10) (omega arith))) in
     let fits : word_at text k ≤ length text =
-    (let a = prefix_len-le-length is_blank (drop k text) in let l = length-drop k text in omega (arith, a, l, low)) in
+    (let a = prefix_len-le-length is_blank (drop k text) in let l = length-drop k text in omega arith) in
     let apart : NotBefore (word_at text k) (lines_from (b == 10) (k + 1) rest) =
-    subst (λ (t : List ℕ). NotBefore (k + prefix_len is_blank t) (lines_from (b == 10) (k + 1) rest)) (sym split)
-    (behind_blanks k (b ∷ rest)) in
-    subst (λ (t : List ℕ). Rising text (lines_from fresh k t)) (sym split)
+    rw split (behind_blanks k (b ∷ rest)) in
+    subst (λ t. Rising text (lines_from fresh k t)) (sym split)
     (elim (cases_Bool fresh) [
       | inl is ↦ rw is (omega (arith, low), fits, apart, more)
       | inr other ↦ rw other more
@@ -96,4 +94,4 @@ lines_rise text (suc n) k fresh long =
 -- each part is within its text
 pub parts_within : (text : List ℕ) → AllByRecursion (IsWithin (length text)) (parts_of text)
 unfolding parts_of
-parts_within text = among text None (lines_from true 0 text) (lines_rise text (length text) 0 true (omega arith)) tt
+parts_within text = among text None _ (lines_rise text (length text) 0 true (omega arith)) tt

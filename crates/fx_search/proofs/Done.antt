@@ -48,7 +48,7 @@ module _ (p : Problem) (limit : ℕ) where
     -- they are more than the limit allows
     pub done-past : limit < length now + length (through D xs) → IsSpent (search_tree p) limit all []
     done-past past =
-        part_end (search_tree p) (search_mark p) limit false all h.done xs ys [] [] now [] [] h.whole h.none h.marks
+        part_end _ _ limit false all h.done xs ys [] [] now [] [] h.whole h.none h.marks
         end.Spent (λ e. cc e) (record { more = past })
 
     -- the first of them that is a design
@@ -56,17 +56,17 @@ module _ (p : Problem) (limit : ℕ) where
         → new ≡ now ++ map (search_mark p) (through D xs) → length new ≤ limit
         → IsFound (search_tree p) (search_mark p) limit all [] new left
     done-found left first new more fits =
-        part_end (search_tree p) (search_mark p) limit false all h.done xs ys [] [] now new left h.whole h.none h.marks
+        part_end _ _ limit false all h.done xs ys [] [] now new left h.whole h.none h.marks
         end.Found (λ e. cc e) (record { first = first; marks = more; fits = fits })
 
   -- nothing is left
   pub done-all : (now : List Mark) → IsDoneTo p limit [] now
       → IsClosed (search_tree p) (search_mark p) limit all [] [] now []
   done-all now h =
-      let whole : all ≡ h.done = h.whole ∙ append-nil h.done in
+      let whole = h.whole ∙ append-nil h.done in
       record {
-        none = ap (list_any D) whole ∙ h.none;
-        marks = h.marks ∙ ap (map (search_mark p)) (sym whole);
+        none = cc;
+        marks = cc;
         fits = h.fits;
         back = refl;
       }

@@ -1,11 +1,10 @@
 -- Where a walk is, seen from its parts, and what is known of its question and prefix by equal ones.
-use Rattle.std.proofs.Common.{◌≡◌, ◌≢◌, ◌<◌, ◌≤◌, ◌+◌, ◌-◌, ℕ, Bool, List, Some, refl, sym, ap, subst, ◌∙◌, arith}
+use Rattle.std.proofs.Common.{◌≡◌, ◌≢◌, ◌<◌, ◌≤◌, ◌+◌, ◌-◌, ℕ, Bool, List, Some, refl, sym, subst, arith}
 use Rattle.std.proofs.Common.{length, [], ◌∷◌}
 use Rattle.fx_search.specs.Asked.{IsRight}
 use Rattle.fx_search.specs.declared.asking.Asked.{Asked}
 use Rattle.std.proofs.lemmas.List.{length-take-le}
 use Rattle.fx_designs.specs.Nodes.{Mark, parent}
-use Rattle.fx_designs.specs.Problems.{Problem}
 use Rattle.fx_laws.specs.Walks.{subtree}
 use Rattle.fx_tree.specs.Search.{search_tree}
 use Rattle.fx_vectors.specs.declared.question.Question.{Question}
@@ -34,21 +33,21 @@ module _ {I : Type 0} (standing : I → Standing) (question : Question) where
       → v.pruner.prefix ≡ w.pruner.prefix → (standing v.incumbent).problem ≡ (standing w.incumbent).problem
       → (standing v.incumbent).prefix ≡ (standing w.incumbent).prefix → IsAt standing question v
   at-as w v h same shape prefix problem rows known standing_rows =
-      let here : v.prefix.rows ≡ w.prefix.rows = ap (λ m. m.rows) prefix in
+      let here : v.prefix.rows ≡ w.prefix.rows = cc in
       record {
         valid = h.valid;
-        question_is = same ∙ h.question_is;
-        candidates = shape ∙ h.candidates;
-        shape = ap (λ m. m.shape) prefix ∙ h.shape;
-        pruner_problem = problem ∙ h.pruner_problem;
-        pruner_rows = rows ∙ h.pruner_rows ∙ sym here;
-        incumbent_problem = known ∙ h.incumbent_problem;
-        incumbent_rows = standing_rows ∙ h.incumbent_rows ∙ sym here;
+        question_is = cc;
+        candidates = cc;
+        shape = cc;
+        pruner_problem = cc;
+        pruner_rows = cc;
+        incumbent_problem = cc;
+        incumbent_rows = cc;
       }
 
   -- it is there by its own question
   pub at-own : (w : Walk I) → IsAt standing question w → IsAt standing w.question.now w
-  at-own w h = subst (λ z. IsAt standing z w) (sym h.question_is) h
+  at-own w h = rw (← h.question_is) at h
 
   -- the walk of a child is over where the visit has an end
   pub visited-over : (rows d : List ℕ) (limit : ℕ) (stopped : Bool) (end : End) (old : List Mark) (w : Walk I)
@@ -63,7 +62,7 @@ module _ {I : Type 0} (standing : I → Standing) (question : Question) where
     ends = record {
       first = h.ends.first;
       marks = h.ends.marks;
-      fits = let few = h.ends.fits in omega (arith, few, room);
+      fits = let few = h.ends.fits in omega arith;
     };
   }
   visited-over rows d limit stopped Closed old w room h = record {
@@ -73,7 +72,7 @@ module _ {I : Type 0} (standing : I → Standing) (question : Question) where
     ends = record {
       none = h.ends.none;
       marks = h.ends.marks;
-      fits = let few = h.ends.fits in omega (arith, few, room);
+      fits = let few = h.ends.fits in omega arith;
       back = h.ends.back;
     };
   }
@@ -86,8 +85,8 @@ module _ {I : Type 0} (standing : I → Standing) (question : Question) where
       → w.bound ≤ count_of_rows (problem_of question) → w.limit ≤ 5000000 → IsPaused standing w
   paused-as w at inner bound limit = record {
     at = at-own standing question w at;
-    inner = subst (λ z. IsInner (problem_of z) w.prefix.rows) (sym at.question_is) inner;
-    bound = subst (λ z. w.bound ≤ count_of_rows (problem_of z)) (sym at.question_is) bound;
+    inner = rw at.question_is inner;
+    bound = rw at.question_is bound;
     limit = limit;
   }
 
@@ -96,24 +95,24 @@ module _ {I : Type 0} (standing : I → Standing) (question : Question) where
       → IsAt standing question v → v.prefix.rows ≡ parent w.prefix.rows → v.bound < count_of_rows (problem_of question)
       → v.limit ≡ w.limit → IsPaused standing v
   paused-left w v same h some at rows bound limit =
-      let rs : List ℕ = w.prefix.rows in
-      let p : Problem = problem_of question in
-      let inner : IsInner p rs = subst (λ z. IsInner (problem_of z) rs) (sym same) h.inner in
+      let rs = w.prefix.rows in
+      let p = problem_of question in
+      let inner = rw (← same) at h.inner in
       let up = parent-placed p (field_of question at.valid) rs some inner.canonical inner.open_ in
       let part = inner.part in
       paused-as v at
       (subst (IsInner p) (sym rows)
       (record {
-        part = omega (arith, part, length-take-le (length rs - 1) rs (omega arith));
+        part = omega (arith, length-take-le (length rs - 1) rs (omega arith));
         canonical = up.0;
         open_ = up.1;
-      })) (omega (arith, bound)) (omega (arith, limit, h.limit))
+      })) (omega arith) (omega arith)
 
 -- an answer to a question within a limit is one to an equal question within an equal limit
 pub right-of : (asked : Asked) (walked question : Question) (limit budget : ℕ) → walked ≡ question → limit ≡ budget
     → IsRight walked limit asked → IsRight question budget asked
 right-of asked walked question limit budget same is h =
-    subst (λ z. IsRight z budget asked) same (subst (λ k. IsRight walked k asked) is h)
+    rw (← same) (rw is at h)
 
 -- a list that is not empty has an item
 pub some-of : {X : Type 0} (xs : List X) → (xs ≡ [] → ⊥) → 0 < length xs

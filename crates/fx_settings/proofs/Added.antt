@@ -1,6 +1,6 @@
 -- What comes of adding the names of a range.
 use Rattle.std.proofs.Common.{◌≡◌, ℕ, ◌+◌, ◌-◌, ◌<◌, ◌≤◌, Bool, true, false, List, ◌++◌, length, Some, Result, Ok, Err}
-use Rattle.std.proofs.Common.{refl, sym, ap, ap₂, ◌∙◌, arith}
+use Rattle.std.proofs.Common.{◌∙◌, arith}
 use Rattle.std.specs.Prelude.{nat_lt, if◌then◌else◌, IfErr, OnOk}
 use Rattle.std.proofs.lemmas.Bool.{lt-ltb, le-ltb}
 use Rattle.std.proofs.lemmas.List.{length-append}
@@ -32,26 +32,26 @@ module _ (limit : ℕ) (names : List (List ℕ)) (first last : Written)
   counted = length-map-range_with_len _ _ _
 
   is_counted : added limit names (item_of first (Some last)) ≡ by_count (nat_lt limit (length names + length all))
-  is_counted = rw regular refl
+  is_counted = rw regular
 
   pub too_many : limit < length names + (number_at_end last.text + 1 - from)
       → added limit names (item_of first (Some last)) ≡ Err (refusal_at 10 first)
-  too_many h = is_counted ∙ ap by_count (lt-ltb limit (length names + length all) (omega (arith, h, counted)))
+  too_many h = cc (is_counted, lt-ltb limit (length names + length all) (omega (arith, counted)))
 
   module _ (start count : ℕ) (is_start : start ≡ from) (is_count : count ≡ number_at_end last.text + 1 - from)
       (room : length names + count ≤ limit) where
     new : numbered (stem first.text) start count ≡ all
-    new = ap₂ (numbered (stem first.text)) is_start is_count
+    new = cc
 
     fits : added limit names (item_of first (Some last))
         ≡ (if are_known all names then Err (refusal_at 5 first) else Ok (names ++ all))
-    fits = is_counted ∙ ap by_count (le-ltb limit (length names + length all) (omega (arith, room, is_count, counted)))
+    fits = cc (is_counted, le-ltb limit (length names + length all) (omega (arith, counted)))
 
     pub is_added : (r : Result (Unit {0}) ParseStop) (more : List (List ℕ))
         → OnOk r (more ≡ names ++ numbered (stem first.text) start count)
         → OnOk r (are_known (numbered (stem first.text) start count) names ≡ false)
         → OnOk r (added limit names (item_of first (Some last)) ≡ Ok more)
-    is_added (Ok u) more grown fresh = fits ∙ rw (← new, fresh) (ap Ok (sym grown))
+    is_added (Ok u) more grown fresh = fits ∙ rw (← new, fresh) (cc)
     is_added (Err e) more grown fresh = tt
 
     pub is_refused : (r : Result (Unit {0}) ParseStop)
@@ -60,13 +60,13 @@ module _ (limit : ℕ) (names : List (List ℕ)) (first last : Written)
     is_refused (Ok u) h = tt
     is_refused (Err stop.NoMemory) h = tt
     is_refused (Err (stop.Refused refusal)) h =
-        fits ∙ rw (← new) (go (are_known (numbered (stem first.text) start count) names) h)
+        fits ∙ rw (← new) (go _ h)
       where
         go : (known : Bool) → known_at first known ≡ Err refusal
             → (if known then Err (refusal_at 5 first) else Ok (names ++ numbered (stem first.text) start count))
             ≡ Err refusal
         go true e = cc
-        go false e = absurd (cc e)
+        go false e = cc e
 
     pub is_within : (r : Result (Unit {0}) ParseStop) (more : List (List ℕ))
         → OnOk r (more ≡ names ++ numbered (stem first.text) start count) → OnOk r (length more ≤ limit)

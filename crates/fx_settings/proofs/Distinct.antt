@@ -1,16 +1,15 @@
 -- The names of a step's factors differ from one another.
 use Rattle.std.proofs.Common.{◌≡◌, ℕ, ◌+◌, ◌-◌, ◌^◌, ◌<◌, true, false, not, List, [], ◌∷◌, ◌++◌, length, Option, Some}
 use Rattle.std.proofs.Common.{None, Ok, subst, arith}
-use Rattle.std.specs.Prelude.{is_some, nat_lt, nat_le, ◌&&◌}
-use Rattle.std.specs.List.{AllByRecursion, IsDistinct, list_all}
+use Rattle.std.specs.Prelude.{nat_lt}
+use Rattle.std.specs.List.{AllByRecursion, IsDistinct}
 use Rattle.std.specs.Str.Parse.{digits_value}
 use Rattle.std.proofs.lemmas.Bool.{leb-true, not-false, and_parts, or_parts}
-use Rattle.fx_lexer.specs.Bytes.{is_digit}
 use Rattle.fx_text.specs.Written.{Written}
-use Rattle.fx_text.specs.Names.{is_same_name, place_of}
+use Rattle.fx_text.specs.Names.{is_same_name}
 use Rattle.fx_text.proofs.Digits.{is_below}
 use Rattle.fx_text.proofs.Distinct.{IsNew, joined_differ, none_differ, not_found}
-use Rattle.fx_text.specs.Ranges.{is_range, is_numeral, is_plain, numbered, stem, digits_at_end, number_at_end}
+use Rattle.fx_text.specs.Ranges.{is_range, is_plain, numbered, stem, digits_at_end, number_at_end}
 use Rattle.fx_settings.specs.Items.{Item, is_regular, is_regular_from, names_of, names_from, items_of}
 use Rattle.fx_settings.specs.Factors.{are_known, added, all_added, names_of_factors}
 use Rattle.fx_text.proofs.RangeParts.{plain, order}
@@ -20,15 +19,15 @@ use Rattle.fx_settings.proofs.NumbersDiffer.{numbered_differ}
 are_new : (names new : List (List ℕ)) → are_known new names ≡ false → AllByRecursion (IsNew names) new
 are_new names [] e = tt
 are_new names (name ∷ new) e =
-    let parts = or_parts (is_some (place_of name names)) (are_known new names) e in
+    let parts = or_parts _ _ e in
     (not_found names name parts.0, are_new names new parts.1)
 
 plain_is_below : (digits : List ℕ) → is_plain digits ≡ true → digits_value 10 digits < 10 ^ 38
 plain_is_below digits e =
-    let plain = and_parts (is_numeral digits) _ e in
-    let short = and_parts (list_all is_digit digits && nat_le 1 (length digits)) (nat_le (length digits) 38) plain.0 in
-    let some = and_parts (list_all is_digit digits) (nat_le 1 (length digits)) short.0 in
-    is_below digits (some.0, leb-true 1 (length digits) some.1, leb-true (length digits) 38 short.1)
+    let plain = and_parts _ _ e in
+    let short = and_parts _ _ plain.0 in
+    let some = and_parts _ _ short.0 in
+    is_below digits (some.0, leb-true 1 _ some.1, leb-true _ 38 short.1)
 
 range_differs : (first last : List ℕ) → is_range first last ≡ true
     → IsDistinct is_same_name
@@ -51,15 +50,14 @@ added_differ limit names item more h e =
     let few = unless_ok (nat_lt limit (length names + length (names_of item))) _ more _ regular.1 in
     let new = unless_ok (are_known (names_of item) names) _ more _ few.1 in
     let same : names ++ names_of item ≡ more = cc new.1 in
-    let differ = item_differs item.first item.last (not-false (is_regular item) regular.0) in
     subst (IsDistinct is_same_name) same
-    (joined_differ names (names_of item) h differ (are_new names (names_of item) new.0))
+    (joined_differ names _ h (item_differs item.first item.last (not-false _ regular.0)) (are_new names _ new.0))
 
 all_differ : (limit : ℕ) (items : List Item) (names all : List (List ℕ)) → IsDistinct is_same_name names
     → all_added limit names items ≡ Ok all → IsDistinct is_same_name all
 all_differ limit [] names all h e = let same : names ≡ all = cc e in subst (IsDistinct is_same_name) same h
 all_differ limit (item ∷ items) names all h e =
-    let one = bind_ok (added limit names item) (λ more. all_added limit more items) all e in
+    let one = bind_ok _ _ all e in
     all_differ limit items one.0 all (added_differ limit names item one.0 h one.1) one.2
 
 pub factors_differ : (limit : ℕ) (statement : List Written) (names : List (List ℕ))

@@ -22,7 +22,7 @@ use Rattle.fx_settings.specs.ItemReadings.{AreItems, AreItemsRead, AreFoldedItem
 -- a word is no sign
 no_sign : (sign s : Symbol) → is_word sign ≡ false → is_word s ≡ true → is sign s ≡ false
 no_sign sign s none word = elim (cases_Bool (is sign s)) [
-  | inl it ↦ absurd (let f : false ≡ true = sym none ∙ ap is_word (sym (symbol_is sign s it)) ∙ word in cc)
+  | inl it ↦ absurd (let f : false ≡ true = cc (symbol_is sign s it) in cc)
   | inr differs ↦ differs
 ]
 
@@ -33,7 +33,7 @@ no_range [] each = refl
 no_range (p ∷ parts) each = one each.0
   where
     one : Reads grammar.item p → range_end (p ++ flat_map (λ (part : List Written). part) parts) ≡ None
-    one (x, y, (a, ha, ea), more, e) = rw (e, ea) (rw (no_sign symbol.Minus a.symbol refl ha) refl)
+    one (x, y, (a, ha, ea), more, e) = rw (e, ea) (rw (no_sign symbol.Minus a.symbol refl ha))
 
 -- the items of what is written so
 are_items : (parts : List (List Written)) → AllByRecursion (Reads grammar.item) parts → (before : Written)
@@ -52,11 +52,11 @@ are_items (p ∷ parts) each before plain = one each.0 (are_items parts each.1)
         → ((w : Written) → is symbol.Minus w.symbol ≡ false → AreItems parts (items_behind (w ∷ rest)))
         → AreItems (p ∷ parts) (items_behind (before ∷ p ++ rest))
     one (x, y, (a, ha, ea), inr ey, e) later =
-        let all : p ≡ a ∷ [] = rw (ea, ey) at e in
+        let all = rw (ea, ey) at e in
         let word = no_sign symbol.Minus a.symbol refl ha in
         rw all (rw (plain, word, no_range parts each.1) ((rw all at sound, ha, refl), later a word))
     one (x, y, (a, ha, ea), inl (u, v, (b, hb, eb), (c, hc, ec), f), e) later =
-        let all : p ≡ a ∷ b ∷ c ∷ [] = rw (ea, f, eb, ec) at e in
+        let all = rw (ea, f, eb, ec) at e in
         rw all
         (rw (plain, no_sign symbol.Minus a.symbol refl ha, hb)
         ((rw all at sound, ha, (b, hb, hc, refl)), later c (no_sign symbol.Minus c.symbol refl hc)))
@@ -65,8 +65,8 @@ are_items (p ∷ parts) each before plain = one each.0 (are_items parts each.1)
 before_all : (front options : List Written) → has_symbol symbol.Slash front ≡ false
     → (options ≡ []) ⊎ (begins symbol.Slash options ≡ true) → preceding symbol.Slash (front ++ options) ≡ front
 before_all front options lack (inl empty) =
-    ap (preceding symbol.Slash) (ap (λ l. front ++ l) empty ∙ append-nil front) ∙ before_none symbol.Slash front lack
-before_all front [] lack (inr some) = absurd (let f : false ≡ true = some in cc)
+    cc (append-nil front, before_none symbol.Slash front lack)
+before_all front [] lack (inr some) = absurd (let f = some in cc)
 before_all front (w ∷ options) lack (inr some) = before_part symbol.Slash front w options lack some
 
 regrouped : (a b c d e : List Written) → a ++ (b ++ (c ++ (d ++ e))) ≡ (((a ++ b) ++ c) ++ d) ++ e
@@ -92,8 +92,8 @@ items_law s by_grammar = read (by_lexemes grammar.factors s by_grammar)
     ) =
         let all : List (List Written) = (x1 ++ x2) ∷ parts in
         let each_item : AllByRecursion (Reads grammar.item) all = ((x1, x2, n, g, refl), each) in
-        let front : List Written = flat_map (λ part. part) all in
-        let same : f.symbol ≡ symbol.Factors = symbol_is symbol.Factors f.symbol hf in
+        let front = flat_map (λ part. part) all in
+        let same = symbol_is symbol.Factors f.symbol hf in
         let lack : has_symbol symbol.Slash (f ∷ front) ≡ false =
         rw (ap (is symbol.Slash) same) (lacking symbol.Slash (Many grammar.item) front refl (all, each_item, refl)) in
         let inner : y0 ≡ (front ++ x4) ++ m ∷ [] =
@@ -106,7 +106,7 @@ items_law s by_grammar = read (by_lexemes grammar.factors s by_grammar)
           statement = whole;
           items = rw whole
               (subst (AreItems all) (sym (ap items_behind (before_all (f ∷ front) x4 lack (begun x4 o))))
-              (are_items all each_item f (ap (is symbol.Minus) same)));
+              (are_items all each_item f (cc)));
           behind = begun x4 o;
         }
 
@@ -120,5 +120,5 @@ folded_items_law s by_grammar = read (by_lexemes grammar.foldover s by_grammar)
           word = f;
           written = parts;
           statement = whole;
-          items = rw whole (are_items parts each f (ap (is symbol.Minus) (symbol_is symbol.Foldover f.symbol hf)));
+          items = rw whole (are_items parts each f (cc (symbol_is symbol.Foldover f.symbol hf)));
         }

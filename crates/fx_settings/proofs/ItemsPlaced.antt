@@ -6,7 +6,7 @@ use Rattle.fx_language.specs.declared.symbol.Symbol.TheVariants.{Minus, Slash}
 use Rattle.fx_language.specs.Symbols.{is}
 use Rattle.fx_text.specs.Written.{Written}
 use Rattle.fx_text.specs.Ranges.{range_end}
-use Rattle.fx_settings.specs.Items.{Item, item_of, items_behind, items_of, with_item, is_regular, names_of}
+use Rattle.fx_settings.specs.Items.{Item, item_of, items_behind, with_item, is_regular, names_of}
 use Rattle.fx_settings.specs.Factors.{are_known, added, all_added, names_of_factors}
 use Rattle.fx_text.proofs.Placed as placed
 use Rattle.fx_text.proofs.Placed.{IsPlaced, ArePlaced, Placed}
@@ -37,4 +37,4 @@ module _ (P : ℕ → ℕ → Type 0) where
       (λ more. all limit more s h.1)
 
   pub factors : (limit : ℕ) (s : List Written) → ArePlaced P s → Placed P (names_of_factors limit s)
-  factors limit s h = all limit [] (items_of s) (items _ (placed.before_it P Slash s h))
+  factors limit s h = all limit [] _ (items _ (placed.before_it P Slash s h))

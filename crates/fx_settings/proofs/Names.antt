@@ -1,7 +1,7 @@
 -- The names of factors are names.
-use Rattle.std.proofs.Common.{◌≡◌, ℕ, zero, suc, ◌+◌, ◌-◌, ◌^◌, ◌<◌, ◌≤◌, true, not, List, [], ◌∷◌, ◌++◌, length, map}
-use Rattle.std.proofs.Common.{Option, Some, None, Ok, refl, sym, ap, ap₂, subst, take, ◌∙◌, arith}
-use Rattle.std.specs.Prelude.{All, decimal, ◌&&◌, ◌||◌, nat_lt, nat_le}
+use Rattle.std.proofs.Common.{◌≡◌, ℕ, zero, suc, ◌+◌, ◌^◌, ◌<◌, ◌≤◌, true, not, List, [], ◌∷◌, ◌++◌, length, map}
+use Rattle.std.proofs.Common.{Option, Some, None, Ok, refl, ap₂, subst, take, ◌∙◌, arith}
+use Rattle.std.specs.Prelude.{All, decimal, ◌&&◌, nat_lt, nat_le}
 use Rattle.std.specs.List.{AllByRecursion, flat_map, list_all}
 use Rattle.std.proofs.Math.Bool.{or-true}
 use Rattle.std.proofs.lemmas.Bool.{and_parts, le-leb, leb-true, not-false}
@@ -15,16 +15,15 @@ use Rattle.std.proofs.lemmas.List.Folds.{list_all-append}
 use Rattle.std.specs.Str.Parse.{AllDigits}
 use Rattle.fx_base.proofs.Lists.{each-append, each-append_parts}
 use Rattle.fx_lexer.specs.Bytes.{begins_word, is_digit, is_word_byte}
-use Rattle.fx_language.specs.Symbols.{is_word}
 use Rattle.fx_language.specs.Grammar as grammar
-use Rattle.fx_text.specs.Names.{IsName, is_same_name}
+use Rattle.fx_text.specs.Names.{IsName}
 use Rattle.fx_text.specs.Ranges.{digits_at_end, is_numeral, is_plain, is_range, number_at_end, numbered, stem, stem_len}
 use Rattle.fx_text.specs.Sentences.{HasNames, IsStatement}
 use Rattle.fx_text.specs.Written.{Written}
 use Rattle.fx_text.proofs.Digits.{digits}
 use Rattle.fx_text.proofs.RangeParts.{order, plain}
 use Rattle.fx_text.proofs.Chains.{unless_ok, bind_ok}
-use Rattle.fx_settings.specs.Items.{Item, is_regular, is_regular_from, items_of, names_from, names_of}
+use Rattle.fx_settings.specs.Items.{Item, is_regular, is_regular_from, names_from, names_of}
 use Rattle.fx_settings.specs.Factors.{added, all_added, are_known, names_of_factors}
 use Rattle.fx_settings.specs.ItemReadings.{AreItems, IsWrittenAs}
 use Rattle.fx_settings.proofs.ItemReadings.{items_law}
@@ -49,43 +48,43 @@ each_item (p ∷ written) (i ∷ items) h names = by_last i.last h.0.2 (each_ite
         → (HasNames rest → AllByRecursion (λ (i : Item). HasItemNames i.first i.last) items)
         → HasItemNames i.first last × AllByRecursion (λ (i : Item). HasItemNames i.first i.last) items
     by_last None e later =
-        let here : HasNames (i.first ∷ rest) = subst (λ (l : List Written). HasNames (l ++ rest)) e names in
+        let here = rw e at names in
         (here.0 h.0.1, later here.1)
     by_last (Some last) (minus, hm, hl, e) later =
-        let here : HasNames (i.first ∷ minus ∷ last ∷ rest) =
-        subst (λ (l : List Written). HasNames (l ++ rest)) e names in
+        let here =
+        rw e at names in
         ((here.0 h.0.1, here.1.1.0 hl), later here.1.1.1)
 
 -- a number up to that of the last name has no more digits than it
 no_longer : (first last : List ℕ) (n : ℕ) → is_range first last ≡ true → n ≤ number_at_end last
     → length (decimal n) ≤ length (digits_at_end last)
 no_longer first last n regular upto =
-    let whole = (plain first last regular).1 in
-    let numeral = (and_parts (is_numeral (digits_at_end last)) _ whole).0 in
     let short =
-    and_parts (list_all is_digit (digits_at_end last) && nat_le 1 (length (digits_at_end last)))
-    (nat_le (length (digits_at_end last)) 38) numeral in
-    let some = and_parts (list_all is_digit (digits_at_end last)) (nat_le 1 (length (digits_at_end last))) short.0 in
-    let k : ℕ = length (digits_at_end last) in
-    let most : k ≤ 38 = leb-true k 38 short.1 in
-    let positive : 1 ≤ k = leb-true 1 k some.1 in
+    and_parts _
+    _ (and_parts _ _ (plain first last regular).1).0 in
+    let some = and_parts _ _ short.0 in
+    let k = length (digits_at_end last) in
+    let positive = leb-true 1 k some.1 in
     let value : number_at_end last < 10 ^ k = digits_value_short digits (digits_at_end last) k some.0 (omega arith) in
-    let small : number_at_end last < 10 ^ 38 = digits_value_short digits (digits_at_end last) 38 some.0 most in
+    let small = digits_value_short digits _ 38 some.0 (leb-true k 38 short.1) in
     length-decimal-le_wide k n (omega (arith, positive)) (omega (arith, upto, value)) (omega (arith, upto, small))
 
 -- the stems of a range are as long as one another, and not empty
 same_stems : (first last : List ℕ) → is_range first last ≡ true → length (stem first) ≡ length (stem last)
 same_stems first last regular =
-    let most = and_parts _ (nat_le (number_at_end first) (number_at_end last)) regular in
-    let same = (and_parts _ (is_same_name (stem first) (stem last)) most.0).1 in
+    let most = and_parts _ _ regular in
+    let same = (and_parts _ _ most.0).1 in
     let folded = (bytes_eq-Decides (map to_ascii_lowercase (stem first)) (map to_ascii_lowercase (stem last))).0 same in
-    sym (length-map (stem first) to_ascii_lowercase) ∙ ap (λ (l : List ℕ). length l) folded ∙ length-map (stem last)
-    to_ascii_lowercase
+    cc (
+      length-map (stem first) to_ascii_lowercase,
+      length-map (stem last)
+          to_ascii_lowercase,
+    )
 
 some_stem : (first last : List ℕ) → is_range first last ≡ true → 1 ≤ length (stem first)
 some_stem first last regular =
-    let most = and_parts _ (nat_le (number_at_end first) (number_at_end last)) regular in
-    let same = and_parts _ (is_same_name (stem first) (stem last)) most.0 in
+    let most = and_parts _ _ regular in
+    let same = and_parts _ _ most.0 in
     let plain_last = and_parts _ (is_plain (digits_at_end last)) same.0 in
     let plain_first = and_parts (nat_le 1 (stem_len first)) (is_plain (digits_at_end first)) plain_last.0 in
     let some = leb-true 1 (stem_len first) plain_first.0 in
@@ -95,17 +94,16 @@ some_stem first last regular =
 
 whole_name : (name : List ℕ) → length (stem name) + length (digits_at_end name) ≡ length name
 whole_name name =
-    sym (length-append (stem name) (digits_at_end name)) ∙ ap (λ (l : List ℕ). length l)
-    (take-append-drop (stem_len name) name)
+    cc (length-append (stem name) (digits_at_end name), take-append-drop (stem_len name) name)
 
 -- digits are bytes of a word
 word_digits : (ds : List ℕ) → AllDigits 10 ds → list_all is_word_byte ds ≡ true
 word_digits [] h = refl
 word_digits (c ∷ ds) h =
     let range = digit_from_value c h.0 in
-    let digit : is_digit c ≡ true = rw (le-leb 48 c range.0, le-leb c 57 range.1) refl in
-    let here : is_word_byte c ≡ true = ap (λ b. begins_word c || b) digit ∙ or-true (begins_word c) in
-    rw (here, word_digits ds h.1) refl
+    let digit : is_digit c ≡ true = rw (le-leb 48 c range.0, le-leb c 57 range.1) in
+    let here : is_word_byte c ≡ true = cc (or-true (begins_word c)) in
+    rw (here, word_digits ds h.1)
 
 -- and so are the first bytes of a name
 word_front : (n : ℕ) (name : List ℕ) → list_all is_word_byte name ≡ true → list_all is_word_byte (take n name) ≡ true
@@ -121,7 +119,7 @@ small_number first last regular =
     let whole = (plain first last regular).1 in
     let numeral = (and_parts (is_numeral (digits_at_end last)) _ whole).0 in
     let short =
-    and_parts (list_all is_digit (digits_at_end last) && nat_le 1 (length (digits_at_end last)))
+    and_parts _
     (nat_le (length (digits_at_end last)) 38) numeral in
     let some = and_parts (list_all is_digit (digits_at_end last)) (nat_le 1 (length (digits_at_end last))) short.0 in
     digits_value_short digits (digits_at_end last) 38 some.0 (leb-true (length (digits_at_end last)) 38 short.1)
@@ -131,13 +129,13 @@ in_range : (first last : List ℕ) → is_range first last ≡ true → IsName f
     → from + count ≤ number_at_end last + 1 → AllByRecursion IsName (numbered (stem first) from count)
 in_range first last regular begun is from zero upto = tt
 in_range first last regular begun is from (suc count) upto =
-    let digits = no_longer first last from regular (omega (arith, upto)) in
+    let digits = no_longer first last from regular (omega arith) in
     let small = small_number first last regular in
     let numeral = (decimal_is_IsNumeral_wide from (omega (arith, small, upto))).0.1 in
     let long = length-append (stem first) (decimal from) in
     let name : IsName (stem first ++ decimal from) = (
-      omega (arith, long, some_stem first last regular),
-      omega (arith, long, digits, same_stems first last regular, whole_name last, is.1),
+      omega (arith, some_stem first last regular),
+      omega (arith, same_stems first last regular, whole_name last),
       list_all-append is_word_byte (stem first) (decimal from)
           ∙ ap₂ (λ a b. a && b) (word_front (stem_len first) first begun.2) (word_digits (decimal from) numeral),
     ) in
@@ -148,8 +146,8 @@ of_item : (first : Written) (last : Option Written) → is_regular_from first la
 of_item first None regular is = (is, tt)
 of_item first (Some last) regular is =
     let ends = order first.text last.text regular in
-    in_range first.text last.text regular is.0 is.1 (number_at_end first.text)
-    (number_at_end last.text + 1 - number_at_end first.text) (omega (arith, ends))
+    in_range first.text last.text regular is.0 is.1 _
+    _ (omega arith)
 
 all_names : (limit : ℕ) (items : List Item) (names all : List (List ℕ))
     → AllByRecursion (λ (i : Item). HasItemNames i.first i.last) items → AllByRecursion IsName names
@@ -161,17 +159,16 @@ all_names limit (item ∷ items) names all is h e =
     let few = unless_ok (nat_lt limit (length names + length (names_of item))) _ one.0 _ regular.1 in
     let new = unless_ok (are_known (names_of item) names) _ one.0 _ few.1 in
     let same : names ++ names_of item ≡ one.0 = cc new.1 in
-    let here = of_item item.first item.last (not-false (is_regular item) regular.0) is.0 in
     all_names limit items one.0 all is.1
-    (subst (AllByRecursion IsName) same (each-append IsName names (names_of item) h here)) one.2
+    (subst (AllByRecursion IsName) same
+    (each-append IsName names _ h (of_item item.first item.last (not-false _ regular.0) is.0))) one.2
 
 pub factor_names : (limit : ℕ) (s : List Written) (names : List (List ℕ)) → IsStatement grammar.factors s → HasNames s
     → names_of_factors limit s ≡ Ok names → All IsName names
 factor_names limit s names by_grammar are e =
     let r = items_law s by_grammar in
-    let front : List Written = flat_map (λ (part : List Written). part) r.written in
     let written = subst HasNames r.statement are in
     let items =
-    each_item r.written (items_of s) r.items
-    ((each-append_parts (λ w. is_word w.symbol ≡ true → IsName w.text) front r.options written.1).0) in
-    All-from_recursion IsName names (all_names limit (items_of s) [] names items tt e)
+    each_item r.written _ r.items
+    ((each-append_parts _ (flat_map (λ (part : List Written). part) r.written) r.options written.1).0) in
+    All-from_recursion IsName names (all_names limit _ [] names items tt e)

@@ -1,10 +1,10 @@
 -- A stem with different numbers makes different names.
-use Rattle.std.proofs.Common.{◌≡◌, ℕ, zero, suc, ◌+◌, ◌^◌, ◌<◌, ◌≤◌, false, List, [], ◌∷◌, ◌++◌, map, refl, sym, ap}
-use Rattle.std.proofs.Common.{ap₂, ◌∙◌, inl, inr, arith}
+use Rattle.std.proofs.Common.{◌≡◌, ℕ, zero, suc, ◌+◌, ◌^◌, ◌<◌, ◌≤◌, false, List, [], ◌∷◌, ◌++◌, map, refl, sym}
+use Rattle.std.proofs.Common.{◌∙◌, inl, inr, arith}
 use Rattle.std.specs.Prelude.{decimal}
 use Rattle.std.specs.Char.{to_ascii_lowercase}
 use Rattle.std.specs.List.{AllByRecursion, IsDistinct}
-use Rattle.std.specs.Str.Parse.{AllDigits, digits_value}
+use Rattle.std.specs.Str.Parse.{AllDigits}
 use Rattle.std.proofs.lemmas.Bool.{cases_Bool}
 use Rattle.std.proofs.lemmas.Fmt.{decimal_is_IsNumeral_wide}
 use Rattle.std.proofs.lemmas.List.{append_cancel_left, map-append}
@@ -18,7 +18,7 @@ use Rattle.fx_text.specs.Ranges.{numbered}
 no_case : (ds : List ℕ) → AllDigits 10 ds → map to_ascii_lowercase ds ≡ ds
 no_case [] all = refl
 no_case (c ∷ cs) all =
-    ap₂ (λ x xs. x ∷ xs) ((lowercase_is c).1 (omega (arith, (digit_from_value c all.0).1))) (no_case cs all.1)
+    cc ((lowercase_is c).1 (omega (arith, (digit_from_value c all.0).1)), no_case cs all.1)
 
 -- one stem with two numbers makes two names
 differ : (stem : List ℕ) (m n : ℕ) → m < n → n < 10 ^ 64 → is_same_name (stem ++ decimal m) (stem ++ decimal n) ≡ false
@@ -27,15 +27,15 @@ differ stem m n less small = elim (cases_Bool (is_same_name (stem ++ decimal m) 
       let folded =
       (bytes_eq-Decides (map to_ascii_lowercase (stem ++ decimal m)) (map to_ascii_lowercase (stem ++ decimal n))).0
       same in
-      let at_m = decimal_is_IsNumeral_wide m (omega (arith, less, small)) in
+      let at_m = decimal_is_IsNumeral_wide m (omega arith) in
       let at_n = decimal_is_IsNumeral_wide n small in
       let behind : map to_ascii_lowercase (decimal m) ≡ map to_ascii_lowercase (decimal n) =
       append_cancel_left (map to_ascii_lowercase stem) _ _
-      (sym (map-append to_ascii_lowercase stem (decimal m)) ∙ folded ∙ map-append to_ascii_lowercase stem (decimal n))
+      (cc (map-append to_ascii_lowercase stem (decimal m), map-append to_ascii_lowercase stem (decimal n)))
       in
-      let digits : decimal m ≡ decimal n = sym (no_case (decimal m) at_m.0.1) ∙ behind ∙ no_case (decimal n) at_n.0.1 in
-      let equal : m ≡ n = sym at_m.1 ∙ ap (digits_value 10) digits ∙ at_n.1 in
-      absurd (omega (arith, less, equal))
+      let digits = sym (no_case _ at_m.0.1) ∙ behind ∙ no_case _ at_n.0.1 in
+      let equal : m ≡ n = cc in
+      absurd (omega arith)
   | inr other ↦ other
 ]
 
@@ -43,9 +43,9 @@ differ_from_later : (stem : List ℕ) (m from count : ℕ) → m < from → from
     → AllByRecursion (λ name. is_same_name (stem ++ decimal m) name ≡ false) (numbered stem from count)
 differ_from_later stem m from zero less small = tt
 differ_from_later stem m from (suc count) less small = (
-  differ stem m from less (omega (arith, small)),
+  differ stem m from less (omega arith),
   differ_from_later stem m (from + 1) count (omega (arith, less))
-      (omega (arith, small)),
+      (omega arith),
 )
 
 pub numbered_differ : (stem : List ℕ) (from count : ℕ) → from + count ≤ 10 ^ 64
@@ -53,7 +53,7 @@ pub numbered_differ : (stem : List ℕ) (from count : ℕ) → from + count ≤ 
 unfolding IsDistinct
 numbered_differ stem from zero small = tt
 numbered_differ stem from (suc count) small = (
-  differ_from_later stem from (from + 1) count (omega arith) (omega (arith, small)),
+  differ_from_later stem from _ count (omega arith) (omega arith),
   numbered_differ stem (from + 1)
-      count (omega (arith, small)),
+      count (omega arith),
 )

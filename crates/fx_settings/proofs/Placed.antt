@@ -72,7 +72,7 @@ module _ (P : ℕ → ℕ → Type 0) where
   setting (a ∷ b ∷ c ∷ s) h = h.1.1.0
 
   second : (s : List Written) → ArePlaced P s → IfSome (setting_of (drop 1 s)) (λ x. IsValuePlaced P x.value)
-  second s h = setting (drop 1 s) (placed.dropped P 1 s h)
+  second s h = setting _ (placed.dropped P 1 s h)
 
   sizes : (s : List Written) → ArePlaced P s → IfSome (size_said s) (IsSizePlaced P)
   sizes s h = mapped _ (IsSizePlaced P) _ (second s h) (λ x k. k)
@@ -99,7 +99,8 @@ module _ (P : ℕ → ℕ → Type 0) where
       mapped _ (IsValuePlaced P) _ (setting (drop 2 s) (placed.dropped P 2 s h)) (λ x k. k)
 
   levels : (s : List Written) → ArePlaced P s → IfSome (levels_said s) (IsValuePlaced P)
-  levels s h = mapped _ (IsValuePlaced P) _ (setting (after symbol.Slash s) (placed.after_it P symbol.Slash s h)) (λ x k. k)
+  levels s h =
+      mapped _ (IsValuePlaced P) _ (setting (after symbol.Slash s) (placed.after_it P symbol.Slash s h)) (λ x k. k)
 
   pub said : (proc factors : List Written) (statements : List (List Written)) → P 1 1 → ArePlaced P proc
       → ArePlaced P factors → AreAllPlaced P statements → IsSaidPlaced P (step_said proc factors statements)
@@ -109,16 +110,16 @@ module _ (P : ℕ → ℕ → Type 0) where
         factors = placed.start P factors front in_factors;
         levels = levels factors in_factors;
         nodes = budget proc in_proc;
-        size = chained size_said (IsSizePlaced P) _ (found symbol.Size) sizes;
-        model = chained model_said (IsModelPlaced P) _ (found symbol.Model) models;
-        blocks = chained blocks_said (AreBlocksPlaced P) _ (found symbol.Blocks) (λ s. in_blocks s front);
+        size = chained size_said _ _ (found symbol.Size) sizes;
+        model = chained model_said _ _ (found symbol.Model) models;
+        blocks = chained blocks_said _ _ (found symbol.Blocks) (λ s. in_blocks s front);
       }
 
   first : (all : List Rule) → list_all (λ (r : Rule). is_rule r.code) all ≡ true
       → AllByRecursion (λ (r : Rule). IsPlace P r.place) all → Placed P (first_refusal all)
   first [] codes at = tt
   first (rule ∷ others) codes at =
-      let both = and_parts (is_rule rule.code) (list_all (λ (r : Rule). is_rule r.code) others) codes in
+      let both = and_parts _ _ codes in
       placed.both P rule.applies _ _ (placed.here P rule.code rule.place both.0 at.0) (first others both.1 at.1)
 
   judged : {A : Type 0} (all : List Rule) (x : A) → list_all (λ (r : Rule). is_rule r.code) all ≡ true
@@ -131,7 +132,7 @@ module _ (P : ℕ → ℕ → Type 0) where
     or_factors (Some place) k = k
 
     at_value : (v : Option Value) → IfSome v (IsValuePlaced P) → IsPlace P (value_place x v)
-    at_value v k = or_factors (option_map _ v) (mapped _ (IsPlace P) v k (λ v k. k))
+    at_value v k = or_factors _ (mapped _ (IsPlace P) v k (λ v k. k))
 
     at_size : IsPlace P (size_place x)
     at_size = at_value _ (mapped _ (IsValuePlaced P) x.size h.size (λ size k. k))
@@ -149,6 +150,6 @@ module _ (P : ℕ → ℕ → Type 0) where
 
     pub settings : (u : StepSettings) → Placed P (step_settings_of u x)
     settings u =
-        let given = mapped _ (IsValuePlaced P) x.blocks h.blocks (λ b k. k.1) in
-        let value : IsPlace P (block_value_place x) = at_value _ given in
+        let value : IsPlace P (block_value_place x) =
+        at_value _ (mapped _ (IsValuePlaced P) x.blocks h.blocks (λ b k. k.1)) in
         judged (block_rules u.q u.size x) (divided u x) refl (value, (value, tt))

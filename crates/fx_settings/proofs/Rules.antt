@@ -1,5 +1,5 @@
 -- What the first refusal by some rules says of them.
-use Rattle.std.proofs.Common.{◌≡◌, Bool, true, false, List, [], ◌∷◌, Result, Ok, Err, refl, ap, subst}
+use Rattle.std.proofs.Common.{◌≡◌, Bool, true, false, List, [], ◌∷◌, Result, Ok, Err, refl, subst}
 use Rattle.std.specs.Prelude.{if◌then◌else◌}
 use Rattle.std.specs.List.{AllByRecursion}
 use Rattle.fx_text.specs.declared.refusal.Refusal.{Refusal}
@@ -16,7 +16,7 @@ behind rule rules (Err refusal) kept h = record {
   earlier = rule ∷ h.earlier;
   rule = h.rule;
   later = h.later;
-  order = ap (λ l. rule ∷ l) h.order;
+  order = cc;
   none_before = (kept, h.none_before);
   applies = h.applies;
   refusal_is = h.refusal_is;
@@ -38,7 +38,7 @@ judged (rule ∷ rules) x = by_test rule.applies refl (judged rules x)
       applies = e;
       refusal_is = refl;
     }
-    by_test false e later = behind rule rules (unless_refused rules x) e later
+    by_test false e later = behind rule rules _ e later
 
 -- where none refuses all are kept
 pub all_kept : (rules : List Rule) → first_refusal rules ≡ Ok tt → AllByRecursion DoesNotApply rules
@@ -51,5 +51,5 @@ all_kept rules e = subst (λ r. IsJudged rules (r >>= same)) e (judged rules tt)
 pub accepted : {A : Type 0} (rules : List Rule) (x y : A) → unless_refused rules x ≡ Ok y
     → AllByRecursion DoesNotApply rules × (x ≡ y)
 accepted rules x y e =
-    let first = bind_ok (first_refusal rules) (λ none. Ok x) y e in
+    let first = bind_ok _ _ y e in
     (all_kept rules first.1, same_ok x y first.2)

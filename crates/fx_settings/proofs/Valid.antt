@@ -1,7 +1,7 @@
 -- Settings that no rule refuses are valid.
-use Rattle.std.proofs.Common.{◌≡◌, ℕ, zero, suc, ◌-◌, ◌^◌, ◌≤◌, Bool, true, false, not, ◌&&◌, ◌||◌, Option, Some, None}
-use Rattle.std.proofs.Common.{Ok, refl, sym, ap, subst, ◌∙◌, arith}
-use Rattle.std.specs.Prelude.{nat_le, ◌==◌, is_some, option_map}
+use Rattle.std.proofs.Common.{◌≡◌, ℕ, zero, suc, ◌≤◌, true, false, not, ◌&&◌, ◌||◌, Option, Some, None}
+use Rattle.std.proofs.Common.{Ok, refl, ap, subst, ◌∙◌, arith}
+use Rattle.std.specs.Prelude.{◌==◌, is_some, option_map}
 use Rattle.std.specs.List.{AllByRecursion}
 use Rattle.std.proofs.lemmas.Bool.{le-leb, lt-ltb, ltb-false, and_from, not-false}
 use Rattle.fx_settings.specs.declared.said.BlocksSaid.{BlocksSaid}
@@ -13,7 +13,6 @@ use Rattle.fx_settings.specs.declared.settings.Size.{Size}
 use Rattle.fx_settings.specs.declared.settings.Size.TheVariants.{Runs, Minimum}
 use Rattle.fx_settings.specs.declared.settings.Blocks.{Blocks}
 use Rattle.fx_settings.specs.declared.settings.Blocks.TheVariants as blocks
-use Rattle.fx_settings.specs.Powers.{exponent_or, greatest}
 use Rattle.fx_settings.specs.Rules.{DoesNotApply}
 use Rattle.fx_settings.specs.Sizes.{run_factors_of, is_given_zero, are_too_many_runs, size_of, is_minimum}
 use Rattle.fx_settings.specs.Models.{criterion_of, least_of, is_highest}
@@ -25,28 +24,28 @@ use Rattle.fx_settings.specs.Valid.{is_size, are_blocks, has_blocks, has_most, a
 use Rattle.fx_settings.proofs.Rules.{accepted}
 
 positive : (n : ℕ) → (n == 0) ≡ false → 1 ≤ n
-positive zero e = absurd (cc e)
+positive zero e = cc e
 positive (suc n) e = omega arith
 
 size_fits : (q : ℕ) (m : Option ℕ) → is_given_zero m ≡ false → are_too_many_runs q m ≡ false
     → is_size q (size_of m) ≡ true
 size_fits q None some few = refl
 size_fits q (Some m) some few =
-    and_from (nat_le 1 m) (nat_le (q ^ m) 1024) (le-leb 1 m (positive m some))
-    (le-leb (q ^ m) 1024 (ltb-false 1024 (q ^ m) few))
+    and_from _ _ (le-leb 1 m (positive m some))
+    (le-leb _ 1024 (ltb-false 1024 _ few))
 
 factors_fit : (q : ℕ) (size : Size) (t : ℕ) → 1 ≤ t → is_too_many q size t ≡ false
     → are_blocks q size (blocks.Factors t) ≡ true
-factors_fit q size t one few = and_from (nat_le 1 t) (not (is_too_many q size t)) (le-leb 1 t one) (ap not few)
+factors_fit q size t one few = and_from _ _ (le-leb 1 t one) (ap not few)
 
 by_word : (q : ℕ) (size : Size) (w : BlocksWord) (n : ℕ) → let t =
     block_factors_by_word q (most_run_factors q size) w n in
     1 ≤ t → is_too_many q size t ≡ false → are_blocks q size (blocks_by q size w t) ≡ true
 by_word q (Runs m) w n one few = factors_fit q (Runs m) (block_factors_by_word q m w n) one few
 by_word q Minimum word.Nblkfacs n one few = factors_fit q Minimum n one few
-by_word q Minimum word.Nblocks n one few = factors_fit q Minimum (exponent_or 0 q n) one few
+by_word q Minimum word.Nblocks n one few = factors_fit q Minimum _ one few
 by_word q Minimum word.Size n one few =
-    lt-ltb (greatest q - (greatest q - exponent_or (greatest q) q n)) (greatest q) (omega (arith, one))
+    lt-ltb _ _ (omega arith)
 
 blocks_fit : (q : ℕ) (size : Size) (said : Option BlocksSaid) → let t = block_factors_of q size said in
     is_given_zero t ≡ false → are_too_many_blocks q size t ≡ false → are_blocks q size (blocks_of q size said t) ≡ true
@@ -88,21 +87,21 @@ all_kept : (s : ℕ) (said : StepSaid) → AllByRecursion DoesNotApply (rules s 
 all_kept s said
     (level, (budget, (some, (few, (criterion, (effects, (maximum, (minimum, none))))))))
     (several, (few_blocks, nothing)) =
-    let q : ℕ = levels_of said in
-    let size : Size = size_of (run_factors_of q s said.size) in
-    let least : Bool = least_of said.model in
-    let highest : Bool = is_highest (criterion_of said.model) in
+    let q = levels_of said in
+    let size = size_of (run_factors_of q s said.size) in
+    let least = least_of said.model in
+    let highest = is_highest (criterion_of said.model) in
     let same = as_said q size said.blocks in
-    let numbers = and_from _ _ (not-false _ level) (not-false _ budget) in
-    let sized = and_from _ _ numbers (size_fits q (run_factors_of q s said.size) some few) in
-    let judged = and_from _ _ sized (not-false _ criterion) in
     let apart =
     ap (λ b. not
     (b && (least || (highest && has_most (blocks_of q size said.blocks (block_factors_of q size said.blocks))))))
     same.0
     ∙ ap (λ b. not (is_some said.blocks && (least || (highest && b)))) same.1 ∙ ap not maximum in
     let small = ap (λ b. not (is_minimum size && (highest || least || b))) same.1 ∙ ap not minimum in
-    and_from _ _ (and_from _ _ judged (blocks_fit q size said.blocks several few_blocks))
+    and_from _ _
+    (and_from _ _
+    (and_from _ _ (and_from _ _ (and_from _ _ (not-false _ level) (not-false _ budget)) (size_fits q _ some few))
+    (not-false _ criterion)) (blocks_fit q size said.blocks several few_blocks))
     (and_from _ _ (and_from _ _ (ap not effects) apart) small)
 
 -- settings that were not refused before the effects, with the blocks that keep the rules
@@ -112,10 +111,10 @@ pub with_blocks : (s : ℕ) (said : StepSaid) (x : StepSettings) (given : Blocks
 with_blocks s said x given before kept same =
     let first = accepted (rules s said) (undivided s said) x before in
     let all = subst (λ y. AreBlocksKept y said → are_valid (divided y said) ≡ true) first.1 (all_kept s said first.0) in
-    subst (λ (b : Blocks). are_valid (record x { blocks = b }) ≡ true) (sym same) (all kept)
+    rw same (all kept)
 
 pub valid : (s : ℕ) (said : StepSaid) (x settings : StepSettings) → unblocked_of s said ≡ Ok x
     → step_settings_of x said ≡ Ok settings → are_valid settings ≡ true
 valid s said x settings before after =
     let last = accepted (block_rules x.q x.size said) (divided x said) settings after in
-    subst (λ y. are_valid y ≡ true) last.1 (with_blocks s said x _ before last.0 refl)
+    rw (← last.1) (with_blocks s said x _ before last.0 refl)

@@ -1,5 +1,5 @@
 -- How many components there are, from one number of factors to the next.
-use Rattle.std.proofs.Common.{◌≡◌, ℕ, zero, suc, ◌+◌, ◌-◌, ◌*◌, ◌/◌, ◌^◌, ◌<◌, ◌≤◌, true, sym, ap, ap₂, subst, ◌∙◌}
+use Rattle.std.proofs.Common.{◌≡◌, ℕ, zero, suc, ◌+◌, ◌-◌, ◌*◌, ◌/◌, ◌^◌, ◌<◌, ◌≤◌, true}
 use Rattle.std.proofs.Common.{arith, inl, inr}
 use Rattle.std.specs.Prelude.{nat_lt}
 use Rattle.std.proofs.lemmas.Bool.{cases_lt, lt-ltb}
@@ -11,64 +11,62 @@ use Rattle.fx_vectors.specs.declared.shape.TheConstants.{MOST_FACTORS}
 -- a set of k and one more, in k + 1 ways
 choose_next : (n k : ℕ) → suc k * choose n (suc k) ≡ (n - k) * choose n k
 choose_next zero k = let none : zero - k ≡ 0 = omega arith in rw none (omega arith)
-choose_next (suc n) zero = let h = choose_next n zero in omega (arith, h)
+choose_next (suc n) zero = let h = choose_next n zero in omega arith
 choose_next (suc n) (suc j) =
     let one = choose_next n j in
     let two = choose_next n (suc j) in
     elim (cases_lt j n) [
       | inl below ↦
           let r : ℕ = n - suc j in
-          let a : n - j ≡ r + 1 = omega (arith, below) in
-          let b : suc n - suc j ≡ r + 1 = omega (arith, below) in
+          let a : n - j ≡ r + 1 = omega arith in
+          let b : suc n - suc j ≡ r + 1 = omega arith in
           let first = rw a at one in
-          rw b (omega (arith, first, two))
+          rw b (omega arith)
       | inr over ↦
-          let a : n - j ≡ 0 = omega (arith, over) in
-          let b : n - suc j ≡ 0 = omega (arith, over) in
-          let c : suc n - suc j ≡ 0 = omega (arith, over) in
+          let a : n - j ≡ 0 = omega arith in
+          let b : n - suc j ≡ 0 = omega arith in
+          let c : suc n - suc j ≡ 0 = omega arith in
           let first = rw a at one in
           let second = rw b at two in
-          rw c (omega (arith, first, second))
+          rw c (omega arith)
     ]
 
 module _ (q s k : ℕ) where
   one_more : component_count q s (k + 1) ≡ choose s (suc k) * (q - 1) ^ k
   one_more =
       let less : k + 1 - 1 ≡ k = omega arith in
-      ap₂ (λ i j. choose s i * (q - 1) ^ j) (add-one k) less
+      cc (add-one k)
 
   two_more : component_count q s (k + 2) ≡ choose s (suc (suc k)) * ((q - 1) ^ k * (q - 1))
   two_more =
       let more : k + 2 ≡ suc (suc k) = omega arith in
       let less : k + 2 - 1 ≡ suc k = omega arith in
-      ap₂ (λ i j. choose s i * (q - 1) ^ j) more less ∙ ap (λ p. choose s (suc (suc k)) * p) (pow-suc (q - 1) k)
+      cc (pow-suc (q - 1) k)
 
   regroup : (c d p x r : ℕ) → suc (suc k) * d ≡ r * c → c * p * r * x ≡ d * (p * x) * (k + 2)
-  regroup c d p x r h = let m : suc (suc k) * d * (p * x) ≡ r * c * (p * x) = ap (λ z. z * (p * x)) h in
-      omega (arith, m)
+  regroup c d p x r h = let m : suc (suc k) * d * (p * x) ≡ r * c * (p * x) = cc in
+      omega arith
 
   pub next_count : (next : ℕ) → next ≡ component_count q s (k + 1)
       → next * (s - k - 1) * (q - 1) / (k + 2) ≡ component_count q s (k + 2)
   next_count next is =
       let left : s - k - 1 ≡ s - suc k = omega arith in
       let all : next * (s - k - 1) * (q - 1) ≡ component_count q s (k + 2) * (k + 2) =
-      ap₂ (λ n r. n * r * (q - 1)) (is ∙ one_more) left
-      ∙ regroup (choose s (suc k)) (choose s (suc (suc k))) ((q - 1) ^ k) (q - 1) (s - suc k) (choose_next s (suc k))
-      ∙ ap (λ n. n * (k + 2)) (sym two_more) in
+      cc (one_more, regroup _ _ ((q - 1) ^ k) (q - 1) _ (choose_next s (suc k)), two_more) in
       let some : zero < k + 2 = omega arith in
       div-eq_of_eq-mul_left some all
 
   pub count_more : listed_count q s (k + 1) ≡ listed_count q s k + component_count q s (k + 1)
   count_more =
-      ap (listed_count q s) (add-one k) ∙ ap (λ i. listed_count q s k + component_count q s i) (sym (add-one k))
+      cc (add-one k)
 
 pub count_first : (q s : ℕ) → component_count q s 1 ≡ s
 count_first q s =
     let one = choose_next s zero in
     let none : 1 - 1 ≡ 0 = omega arith in
     let plain : component_count q s 1 ≡ choose s 1 * 1 =
-    ap (λ j. choose s 1 * (q - 1) ^ j) none ∙ ap (λ p. choose s 1 * p) (pow-zero (q - 1)) in
-    omega (arith, one, plain)
+    cc (pow-zero (q - 1)) in
+    omega arith
 
 -- with more factors there are no fewer
 grows : (q s k n : ℕ) → listed_count q s k ≤ listed_count q s (n + k)
@@ -76,20 +74,19 @@ grows q s k zero = let e : zero + k ≡ k = omega arith in rw e (omega arith)
 grows q s k (suc n) =
     let h = grows q s k n in
     let e : suc n + k ≡ suc (n + k) = omega arith in
-    rw e (omega (arith, h))
+    rw e (omega arith)
 
 pub are_many : (q s k d : ℕ) → k < d → 100000 < listed_count q s (k + 1) → nat_lt 100000 (listed_count q s d) ≡ true
 are_many q s k d below many =
-    let e : d - (k + 1) + (k + 1) ≡ d = omega (arith, below) in
-    let h : listed_count q s (k + 1) ≤ listed_count q s d =
-    subst (λ i. listed_count q s (k + 1) ≤ listed_count q s i) e (grows q s (k + 1) (d - (k + 1))) in
-    lt-ltb 100000 (listed_count q s d) (omega (arith, h, many))
+    let e : d - (k + 1) + (k + 1) ≡ d = omega arith in
+    let h =
+    rw e at (grows q s (k + 1) (d - (k + 1))) in
+    lt-ltb 100000 _ (omega arith)
 
 -- a number that stays small
 pub small_next : (next r x k n : ℕ) → n ≡ next * r * x / (k + 2) → next ≤ 100000 → r ≤ MOST_FACTORS → x ≤ 8
     → n ≤ 32000000
 small_next next r x k n is few left levels =
-    let a : next * r ≤ 100000 * MOST_FACTORS = mul-le-mul few left in
-    let b : next * r * x ≤ 100000 * MOST_FACTORS * 8 = mul-le-mul a levels in
-    let c : next * r * x / (k + 2) ≤ next * r * x = div-le_self (next * r * x) (k + 2) in
-    omega (arith, is, b, c)
+    let b = mul-le-mul (mul-le-mul few left) levels in
+    let c = div-le_self (next * r * x) (k + 2) in
+    omega arith

@@ -1,7 +1,7 @@
 -- What an outcome of questions says of their answers; of questions for one number after another, which is answered
 -- last, and that the next has no answer, or those before it have none.
 use Rattle.std.proofs.Common.{ℕ, ◌≡◌, ◌<◌, ◌≤◌, ◌+◌, ◌-◌, zero, suc, Bool, true, false, List, [], ◌∷◌, ◌++◌, length}
-use Rattle.std.proofs.Common.{map, All, Option, Some, None, refl, sym, subst, ◌∙◌, ap, arith, inl, inr, ◌⊎◌}
+use Rattle.std.proofs.Common.{map, All, Option, Some, None, refl, sym, subst, ◌∙◌, arith, inl, inr, ◌⊎◌}
 use Rattle.std.specs.Prelude.{is_some, not, if◌then◌else◌, find, slice_get}
 use Rattle.std.specs.List.{AllByRecursion, range_with_len}
 use Rattle.std.proofs.lemmas.Bool.{cases_Bool, cases_eq, cases_lt, cond-true, cond-false, le-ltb, lt-ltb}
@@ -33,19 +33,20 @@ asked_from question ends a n = up_to (is_last ends) (map question (range_with_le
 pub asked_at : (question : ℕ → Problem) (ends : Until) (a n i : ℕ) → i < n
     → ((j : ℕ) → j < i → is_last ends (question (a + j)) ≡ false)
     → slice_get (asked_from question ends a n) i ≡ Some (question (a + i))
-asked_at question ends a zero i low on = absurd (omega (arith, low))
+asked_at question ends a zero i low on = absurd (omega arith)
 asked_at question ends a (suc n) zero low on =
-    (let here : a ≡ a + 0 = omega arith in ap (λ k. Some (question k)) here)
+    (let here : a ≡ a + 0 = omega arith in cc)
 asked_at question ends a (suc n) (suc i) low on =
     let here : a ≡ a + 0 = omega arith in
     let next : (j : ℕ) → a + 1 + j ≡ a + suc j = λ j. omega arith in
     let first : is_last ends (question a) ≡ false =
-    ap (λ k. is_last ends (question k)) here ∙ on 0 (omega arith) in
-    ap (λ l. slice_get l i)
-    (cond-false (is_last ends (question a)) [] (asked_from question ends (a + 1) n) first)
-    ∙ asked_at question ends (a + 1) n i (omega (arith, low))
-    (λ j less. ap (λ k. is_last ends (question k)) (next j) ∙ on (suc j) (omega (arith, less)))
-    ∙ ap (λ k. Some (question k)) (next i)
+    cc (on 0 (omega arith)) in
+    cc (
+      cond-false _ [] (asked_from question ends (a + 1) n) first,
+      asked_at question ends (a + 1) n i (omega arith)
+          (λ j less. cc (next j, on (suc j) (omega arith))),
+      next i,
+    )
 
 -- what was found stays, or something later is found
 stays_by : (found : Found) (p : Problem) (ps : List Problem) (own : Option (List ℕ))
@@ -56,7 +57,7 @@ stays_by found p ps (Some rows) rest e = rest (record { question = p; rows = row
 
 pub some_stays : (found : Found) (ps : List Problem) → last_found (Some found) ps ≡ None → ⊥
 some_stays found [] e = cc e
-some_stays found (p ∷ ps) e = stays_by found p ps (answer p) (λ found. some_stays found ps) e
+some_stays found (p ∷ ps) e = stays_by found p ps _ (λ found. some_stays found ps) e
 
 module _ (question : ℕ → Problem) where
   -- where the asking ends with the first answer, it is that of n, and no question before it has one
@@ -89,12 +90,12 @@ module _ (question : ℕ → Problem) where
       let rest = later e in (
         rest.0,
         record {
-          from = omega (arith, rest.1.from);
-          below = omega (arith, rest.1.below);
+          from = omega arith;
+          below = omega arith;
           found_at = rest.1.found_at;
           none_before = λ k low high. elim (cases_eq k a) [
-            | inl here ↦ ap (λ n. answer (question n)) here ∙ is
-            | inr other ↦ rest.1.none_before k (omega (arith, low, other)) high
+            | inl here ↦ cc
+            | inr other ↦ rest.1.none_before k (omega arith) high
           ];
         },
       )
@@ -104,15 +105,15 @@ module _ (question : ℕ → Problem) where
         record {
           from = omega arith;
           below = omega arith;
-          found_at = subst (λ found. IsFoundAt question found a) same (record { question_is = refl; answer_is = is });
-          none_before = λ k low high. absurd (omega (arith, low, high));
+          found_at = rw (← same) (record { question_is = refl; answer_is = is });
+          none_before = λ k low high. absurd (omega arith);
         },
       )
 
   pub first-answered : (found : Found) (a n : ℕ) → last_found None (asked_from question Answered a n) ≡ Some found
       → (k : ℕ) × IsFirstAnswered found a (a + n) k
-  first-answered found a zero e = absurd (cc e)
-  first-answered found a (suc n) e = first_step found a n (answer (question a)) refl (first-answered found (a + 1) n) e
+  first-answered found a zero e = cc e
+  first-answered found a (suc n) e = first_step found a n _ refl (first-answered found (a + 1) n) e
 
   -- and where there is none, no question has an answer
   none_step : (a n : ℕ) (own : Option (List ℕ)) → answer (question a) ≡ own
@@ -122,15 +123,15 @@ module _ (question : ℕ → Problem) where
       ≡ None
       → (k : ℕ) → a ≤ k → k < a + suc n → answer (question k) ≡ None
   none_step a n None is later e k low high = elim (cases_eq k a) [
-    | inl here ↦ ap (λ n. answer (question n)) here ∙ is
-    | inr other ↦ later e k (omega (arith, low, other)) (omega (arith, high))
+    | inl here ↦ cc
+    | inr other ↦ later e k (omega arith) (omega arith)
   ]
-  none_step a n (Some rows) is later e k low high = absurd (cc e)
+  none_step a n (Some rows) is later e k low high = cc e
 
   pub none-answered : (a n : ℕ) → last_found None (asked_from question Answered a n) ≡ None
       → (k : ℕ) → a ≤ k → k < a + n → answer (question k) ≡ None
-  none-answered a zero e k low high = absurd (omega (arith, low, high))
-  none-answered a (suc n) e k low high = none_step a n (answer (question a)) refl (none-answered (a + 1) n) e k low high
+  none-answered a zero e k low high = absurd (omega arith)
+  none-answered a (suc n) e k low high = none_step a n _ refl (none-answered (a + 1) n) e k low high
 
   -- what is the last that was found: what was found before these questions, or an answer to one of them
   abbrev IsLast : Found → Option Found → ℕ → ℕ → Type 0
@@ -153,55 +154,55 @@ module _ (question : ℕ → Problem) where
                 from = omega arith;
                 below = omega arith;
                 found_at =
-                    subst (λ found. IsFoundAt question found a) same (record { question_is = refl; answer_is = is });
-                some_upto = λ k low high. has_answer k (omega (arith, low, high));
-                none_next = up (a + 1) here.1;
+                    rw (← same) (record { question_is = refl; answer_is = is });
+                some_upto = λ k low high. has_answer k (omega arith);
+                none_next = up _ here.1;
               },
             )
         | inr rest ↦ inr (
           rest.0,
           record {
-            from = omega (arith, rest.1.from);
-            below = omega (arith, rest.1.below);
+            from = omega arith;
+            below = omega arith;
             found_at = rest.1.found_at;
             some_upto = λ k low high. elim (cases_eq k a) [
               | inl here ↦ has_answer k here
-              | inr other ↦ rest.1.some_upto k (omega (arith, low, other)) high
+              | inr other ↦ rest.1.some_upto k (omega arith) high
             ];
-            none_next = up (rest.0 + 1) rest.1.none_next;
+            none_next = up _ rest.1.none_next;
           },
         )
       ]
     where
       has_answer : (k : ℕ) → k ≡ a → is_some (answer (question k)) ≡ true
-      has_answer k here = ap (λ n. is_some (answer (question n))) here ∙ ap is_some is
+      has_answer k here = cc
 
       up : (k : ℕ) → NoneAt k (a + 1 + n) → NoneAt k (a + suc n)
-      up k h = elim h [ inl end ↦ inl (omega (arith, end)) | inr none ↦ inr none ]
+      up k h = elim h [ inl end ↦ inl (omega arith) | inr none ↦ inr none ]
 
   last_one : (found : Found) (earlier : Option Found) (a n : ℕ)
       → last_found earlier (asked_from question Unanswered a n) ≡ Some found
       → IsLast found earlier a (a + n)
   last_one found earlier a zero e = inl (e, inl (omega arith))
   last_one found earlier a (suc n) e =
-      last_step found earlier a n (answer (question a)) refl (λ earlier. last_one found earlier (a + 1) n) e
+      last_step found earlier a n _ refl (λ earlier. last_one found earlier (a + 1) n) e
 
   pub last-answered : (found : Found) (a n : ℕ) → last_found None (asked_from question Unanswered a n) ≡ Some found
       → (k : ℕ) × IsLastAnswered found a (a + n) k
-  last-answered found a n e = elim (last_one found None a n e) [ inl none ↦ absurd (cc none.0) | inr last ↦ last ]
+  last-answered found a n e = elim (last_one found None a n e) [ inl none ↦ cc none.0 | inr last ↦ last ]
 
   -- and where there is none, the first question has no answer
   first_none : (a : ℕ) (ps : List Problem) (own : Option (List ℕ)) → answer (question a) ≡ own
       → last_found (found_by None (question a) own) ps ≡ None
       → answer (question a) ≡ None
   first_none a ps None is e = is
-  first_none a ps (Some rows) is e = absurd (some_stays (record { question = question a; rows = rows }) ps e)
+  first_none a ps (Some rows) is e = absurd (some_stays _ ps e)
 
   pub none-first : (a n : ℕ) → last_found None (asked_from question Unanswered a (suc n)) ≡ None
       → answer (question a) ≡ None
   none-first a n e =
       first_none a (if not (is_some (answer (question a))) then [] else asked_from question Unanswered (a + 1) n)
-      (answer (question a)) refl e
+      _ refl e
 
 -- Where the outcome is a design it is the last that was found, and where it is none there was none
 
@@ -225,23 +226,23 @@ module _ (rows : List ℕ) (count : ℕ) where
   by_found : (p : Problem) (ps : List Problem) (n : ℕ) (found : Option Found) → last_found None ps ≡ found
       → HasEnding (concluded p found n) (Design rows count)
       → IsLastFound ps (concluded p found n)
-  by_found p ps n None is e = absurd (cc e)
+  by_found p ps n None is e = cc e
   by_found p ps n (Some found) is e =
       record { found = found; last = is; dimensions = refl; reached = refl; rows_are = cc e }
 
   by_turn : (p : Problem) (ps : List Problem) (budget : ℕ) (turn : Option Turn)
       → HasEnding (conclusion_by p ps budget turn) (Design rows count)
       → IsLastFound ps (conclusion_by p ps budget turn)
-  by_turn p ps budget None e = by_found p ps (nodes_of ps) (last_found None ps) refl e
+  by_turn p ps budget None e = by_found p ps _ _ refl e
   by_turn p ps budget (Some turn) e =
-      absurd (not_cut_short turn.question (left_at budget turn) (reached_at budget turn) budget e)
+      absurd (not_cut_short turn.question _ _ budget e)
 
   design-found : (questions : Questions) (budget : ℕ) → HasEnding (conclusion_of questions budget) (Design rows count)
       → IsLastFound (asked questions) (conclusion_of questions budget)
   unfolding conclusion_of
   design-found questions budget e =
-      by_turn (last_of questions.first (asked questions)) (asked questions) budget
-      (find (passes budget) (turns [] (asked questions))) e
+      by_turn (last_of questions.first (asked questions)) _ budget
+      _ e
 
 not_cut : (count : ℕ) (p : Problem) (left : Option Found) (reached budget : ℕ)
     → HasEnding (cut_short p left reached budget) (NoDesign count) → ⊥
@@ -251,14 +252,14 @@ not_cut count p (Some found) reached budget e = cc e
 none_by_found : (count : ℕ) (p : Problem) (n : ℕ) (found : Option Found)
     → HasEnding (concluded p found n) (NoDesign count) → found ≡ None
 none_by_found count p n None e = refl
-none_by_found count p n (Some found) e = absurd (cc e)
+none_by_found count p n (Some found) e = cc e
 
 none_by_turn : (count : ℕ) (p : Problem) (ps : List Problem) (budget : ℕ) (turn : Option Turn)
     → HasEnding (conclusion_by p ps budget turn) (NoDesign count)
     → last_found None ps ≡ None
-none_by_turn count p ps budget None e = none_by_found count p (nodes_of ps) (last_found None ps) e
+none_by_turn count p ps budget None e = none_by_found count p _ _ e
 none_by_turn count p ps budget (Some turn) e =
-    absurd (not_cut count turn.question (left_at budget turn) (reached_at budget turn) budget e)
+    absurd (not_cut count turn.question _ _ budget e)
 
 none-found : (count : ℕ) (questions : Questions) (budget : ℕ)
     → HasEnding (conclusion_of questions budget) (NoDesign count)
@@ -284,9 +285,9 @@ module _ (question : ℕ → Problem) (low high : ℕ) (ends : Until) (budget : 
       (last : IsLastFound rows count (asked (series question low high ends)) outcome)
       → IsFoundAt question last.found n → IsAnswerOf rows n
   answer_of rows count n last at = record {
-    dimensions = last.dimensions ∙ ap (λ (p : Problem). p.dimensions) at.question_is;
-    reached = last.reached ∙ ap (λ (p : Problem). resolution_wanted p.requirement) at.question_is;
-    answer_is = at.answer_is ∙ ap Some last.rows_are;
+    dimensions = cc;
+    reached = cc;
+    answer_is = cc;
   }
 
 module _ (question : ℕ → Problem) (low high budget : ℕ) where
@@ -301,12 +302,12 @@ module _ (question : ℕ → Problem) (low high budget : ℕ) where
   pub of-first : (rows : List ℕ) (count : ℕ)
       → HasEnding (conclusion_of (series question low high Answered) budget) (Design rows count) → IsOfFirst rows
   of-first rows count e =
-      let last = design-found rows count (series question low high Answered) budget e in
+      let last = design-found rows count _ budget e in
       let first = first-answered question last.found low (suc (high - low)) last.last in
       record {
         n = first.0;
         from = first.1.from;
-        upto = λ some. omega (arith, some, first.1.below);
+        upto = λ some. omega arith;
         answers = answer_of question low high Answered budget rows count first.0 last first.1.found_at;
         none_before = first.1.none_before;
       }
@@ -323,16 +324,16 @@ module _ (question : ℕ → Problem) (low high budget : ℕ) where
   pub of-last : (rows : List ℕ) (count : ℕ)
       → HasEnding (conclusion_of (series question low high Unanswered) budget) (Design rows count) → IsOfLast rows
   of-last rows count e =
-      let found = design-found rows count (series question low high Unanswered) budget e in
+      let found = design-found rows count _ budget e in
       let last = last-answered question found.found low (suc (high - low)) found.last in
       record {
         n = last.0;
         from = last.1.from;
-        upto = λ some. omega (arith, some, last.1.below);
+        upto = λ some. omega arith;
         answers = answer_of question low high Unanswered budget rows count last.0 found last.1.found_at;
         some_upto = last.1.some_upto;
         none_next = elim last.1.none_next [
-          | inl end ↦ inl (omega (arith, end))
+          | inl end ↦ inl (omega arith)
           | inr none ↦ inr none
         ];
       }
@@ -341,14 +342,14 @@ module _ (question : ℕ → Problem) (low high budget : ℕ) where
   pub none-of_all : (count : ℕ) → HasEnding (conclusion_of (series question low high Answered) budget) (NoDesign count)
       → (k : ℕ) → low ≤ k → k ≤ high → answer (question k) ≡ None
   none-of_all count e k from to =
-      none-answered question low (suc (high - low)) (none-found count (series question low high Answered) budget e) k
-      from (omega (arith, from, to))
+      none-answered question low (suc (high - low)) (none-found count _ budget e) k
+      from (omega arith)
 
   pub none-of_first : (count : ℕ)
       → HasEnding (conclusion_of (series question low high Unanswered) budget) (NoDesign count)
       → answer (question low) ≡ None
   none-of_first count e =
-      none-first question low (high - low) (none-found count (series question low high Unanswered) budget e)
+      none-first question low (high - low) (none-found count _ budget e)
 
 -- The outcome of any questions
 
@@ -358,11 +359,11 @@ none_found_step : (p : Problem) (ps : List Problem) (own : Option (List ℕ)) �
     → last_found (found_by None p own) ps ≡ None
     → (answer p ≡ None) × AllByRecursion (λ p. answer p ≡ None) ps
 none_found_step p ps None is rest e = (is, rest e)
-none_found_step p ps (Some rows) is rest e = absurd (some_stays (record { question = p; rows = rows }) ps e)
+none_found_step p ps (Some rows) is rest e = absurd (some_stays _ ps e)
 
 pub no_answers : (ps : List Problem) → last_found None ps ≡ None → AllByRecursion (λ p. answer p ≡ None) ps
 no_answers [] e = tt
-no_answers (p ∷ ps) e = none_found_step p ps (answer p) refl (no_answers ps) e
+no_answers (p ∷ ps) e = none_found_step p ps _ refl (no_answers ps) e
 
 pub none-of : (questions : Questions) (budget count : ℕ) → HasEnding (conclusion_of questions budget) (NoDesign count)
     → All (λ p. answer p ≡ None) (asked questions)
@@ -384,21 +385,19 @@ module _ (budget : ℕ) where
       → find (passes budget) (turns earlier ps) ≡ None
   all_within earlier [] few = refl
   all_within earlier (p ∷ ps) few =
-      let here : nodes_of earlier + length (nodes p) ≤ budget = omega (arith, few, nodes_and p ps) in
-      let rest : nodes_of (earlier ++ p ∷ []) + nodes_of ps ≤ budget =
-      omega (arith, few, nodes_and p ps, nodes_more earlier p) in
-      cond-false _ _ _ (le-ltb budget _ here) ∙ all_within (earlier ++ p ∷ []) ps rest
+      cond-false _ _ _ (le-ltb budget _ (omega (arith, nodes_and p ps))) ∙ all_within (earlier ++ p ∷ []) ps
+      (omega (arith, nodes_and p ps, nodes_more earlier p))
 
   -- and more are passed by some
   some_passes : (earlier ps : List Problem) → nodes_of earlier ≤ budget → budget < nodes_of earlier + nodes_of ps
       → (turn : Turn) × (find (passes budget) (turns earlier ps) ≡ Some turn)
-  some_passes earlier [] few more = absurd (let none : nodes_of [] ≡ 0 = refl in omega (arith, few, more, none))
+  some_passes earlier [] few more = absurd (let none : nodes_of [] ≡ 0 = refl in omega arith)
   some_passes earlier (p ∷ ps) few more = elim (cases_lt budget (nodes_of earlier + length (nodes p))) [
     | inl here ↦ (record { earlier = earlier; question = p }, cond-true _ _ _ (lt-ltb budget _ here))
     | inr within ↦
         let rest =
         some_passes (earlier ++ p ∷ []) ps (omega (arith, within, nodes_more earlier p))
-        (omega (arith, more, nodes_and p ps, nodes_more earlier p)) in
+        (omega (arith, nodes_and p ps, nodes_more earlier p)) in
         (rest.0, cond-false _ _ _ (le-ltb budget _ within) ∙ rest.1)
   ]
 
@@ -412,8 +411,7 @@ pub within : (questions : Questions) (budget : ℕ) → nodes_of (asked question
     → conclusion_of questions budget ≡ finished_by questions
 unfolding conclusion_of
 within questions budget few =
-    ap (conclusion_by (last_of questions.first (asked questions)) (asked questions) budget)
-    (all_within budget [] (asked questions) (let none : nodes_of [] ≡ 0 = refl in omega (arith, few, none)))
+    cc (all_within budget [] (asked questions) (let none : nodes_of [] ≡ 0 = refl in omega arith))
 
 pub passed : (questions : Questions) (budget : ℕ) → budget < nodes_of (asked questions)
     → (turn : Turn)
@@ -422,8 +420,8 @@ pub passed : (questions : Questions) (budget : ℕ) → budget < nodes_of (asked
 unfolding conclusion_of
 passed questions budget more =
     let none : nodes_of [] ≡ 0 = refl in
-    let some = some_passes budget [] (asked questions) (omega (arith, none)) (omega (arith, more, none)) in
-    (some.0, ap (conclusion_by (last_of questions.first (asked questions)) (asked questions) budget) some.1)
+    let some = some_passes budget [] (asked questions) (omega arith) (omega arith) in
+    (some.0, cc)
 
 -- What holds of each question holds of that whose dimensions an outcome has
 
@@ -444,9 +442,9 @@ module _ (P : Problem → Type 0) where
   kept_up_to : (ends : Problem → Bool) (ps : List Problem) → AllByRecursion P ps → AllByRecursion P (up_to ends ps)
   kept_up_to ends [] h = h
   kept_up_to ends (p ∷ ps) h = elim (cases_Bool (ends p)) [
-    | inl last ↦ (h.0, subst (AllByRecursion P) (sym (cond-true (ends p) [] (up_to ends ps) last)) tt)
+    | inl last ↦ (h.0, subst (AllByRecursion P) (sym (cond-true _ [] (up_to ends ps) last)) tt)
     | inr more ↦
-        (h.0, subst (AllByRecursion P) (sym (cond-false (ends p) [] (up_to ends ps) more)) (kept_up_to ends ps h.1))
+        (h.0, subst (AllByRecursion P) (sym (cond-false _ [] (up_to ends ps) more)) (kept_up_to ends ps h.1))
   ]
 
   kept_last : (p : Problem) (ps : List Problem) → P p → AllByRecursion P ps → P (last_of p ps)
@@ -462,19 +460,19 @@ module _ (P : Problem → Type 0) where
       → IfFound (last_found earlier ps)
   kept_found earlier [] before all = before
   kept_found earlier (p ∷ ps) before all =
-      kept_found (found_by earlier p (answer p)) ps (kept_by_answer earlier p (answer p) before all.0) all.1
+      kept_found (found_by earlier p (answer p)) ps (kept_by_answer earlier p _ before all.0) all.1
 
   pub kept_turn : (test : Turn → Bool) (earlier ps : List Problem) (turn : Turn) → AllByRecursion P earlier
       → AllByRecursion P ps
       → find test (turns earlier ps) ≡ Some turn → InTurn turn
-  kept_turn test earlier [] turn before all e = absurd (cc e)
+  kept_turn test earlier [] turn before all e = cc e
   kept_turn test earlier (p ∷ ps) turn before all e =
       let own : Turn = record { earlier = earlier; question = p } in
       elim (cases_Bool (test own)) [
-        | inl here ↦ subst InTurn (same_Some own turn (sym (cond-true (test own) _ _ here) ∙ e)) (before, all.0)
+        | inl here ↦ subst InTurn (same_Some own turn (sym (cond-true _ _ _ here) ∙ e)) (before, all.0)
         | inr later ↦
-            kept_turn test (earlier ++ p ∷ []) ps turn (each-append P earlier (p ∷ []) before (all.0, tt)) all.1
-            (sym (cond-false (test own) _ _ later) ∙ e)
+            kept_turn test (earlier ++ p ∷ []) ps turn (each-append P earlier _ before (all.0, tt)) all.1
+            (sym (cond-false _ _ _ later) ∙ e)
       ]
 
   in_concluded : (p : Problem) (found : Option Found) (count : ℕ) → P p → IfFound found
@@ -490,7 +488,7 @@ module _ (P : Problem → Type 0) where
   in_conclusion : (p : Problem) (ps : List Problem) (budget : ℕ) (turn : Option Turn) → P p → AllByRecursion P ps
       → ((own : Turn) → turn ≡ Some own → InTurn own) → OneWith (conclusion_by p ps budget turn).dimensions
   in_conclusion p ps budget None one all each =
-      in_concluded p (last_found None ps) (nodes_of ps) one (kept_found None ps tt all)
+      in_concluded p _ _ one (kept_found None ps tt all)
   in_conclusion p ps budget (Some turn) one all each =
       let here = each turn refl in
       in_cut_short turn.question (left_at budget turn) (reached_at budget turn) budget here.1
@@ -506,7 +504,7 @@ module _ (P : Problem → Type 0) where
   unfolding conclusion_of
   dimensions-of questions budget one others =
       let all = each_asked questions one others in
-      in_conclusion (last_of questions.first (asked questions)) (asked questions) budget
+      in_conclusion _ (asked questions) budget
       (find (passes budget) (turns [] (asked questions)))
       (kept_last questions.first (asked questions) one all) all
       (λ turn e. kept_turn (passes budget) [] (asked questions) turn tt all e)
@@ -522,10 +520,10 @@ each_for : (question : ℕ → Problem) (low high a n : ℕ) → low ≤ a → (
     → AllByRecursion (IsForSome question low high) (map question (range_with_len a n))
 each_for question low high a zero from upto = tt
 each_for question low high a (suc n) from upto =
-    let fits : a + suc n ≤ high + 1 = elim upto [ inl none ↦ absurd (omega (arith, none)) | inr fits ↦ fits ] in (
-      record { n = a; from = from; upto = inl (omega (arith, fits)); is = refl },
+    let fits : a + suc n ≤ high + 1 = elim upto [ inl none ↦ absurd (omega arith) | inr fits ↦ fits ] in (
+      record { n = a; from = from; upto = inl (omega arith); is = refl },
       each_for question low high (a + 1) n
-          (omega (arith, from)) (inr (omega (arith, fits))),
+          (omega arith) (inr (omega arith)),
     )
 
 -- a question of a step
@@ -539,11 +537,11 @@ each-of_step step =
     let low = lowest step step.settings.size in
     let high = highest step step.settings.size in (
       record { n = low; from = omega arith; upto = inr refl; is = refl },
-      each_for (question_for step) low high (low + 1) (high - low) (omega arith)
-          (elim (cases_lt low high) [ inl less ↦ inr (omega (arith, less)) | inr over ↦ inl (omega (arith, over)) ]),
+      each_for _ low high _ _ (omega arith)
+          (elim (cases_lt low high) [ inl less ↦ inr (omega arith) | inr over ↦ inl (omega arith) ]),
     )
 
 pub step-question : (step : Meaning) → OneWith (IsQuestionOf step) (outcome_of step).dimensions
 step-question step =
     let each = each-of_step step in
-    dimensions-of (IsQuestionOf step) (questions_of step) step.settings.budget each.0 each.1
+    dimensions-of _ _ step.settings.budget each.0 each.1

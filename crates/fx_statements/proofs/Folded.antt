@@ -1,6 +1,7 @@
 -- The factors that the items of FOLDOVER fold, name by name.
-use Rattle.std.proofs.Common.{◌≡◌, ℕ, zero, suc, ◌+◌, ◌-◌, ◌<◌, ◌≤◌, true, List, ◌∷◌, ◌++◌, drop, replicate, Result, Some}
-use Rattle.std.proofs.Common.{Ok, Err, refl, sym, ap, ap₂, ◌∙◌, arith}
+use Rattle.std.proofs.Common.{◌≡◌, ℕ, zero, suc, ◌+◌, ◌-◌, ◌<◌, ◌≤◌, true, List, ◌∷◌, ◌++◌, drop, replicate, Result}
+use Rattle.std.proofs.Common.{Some}
+use Rattle.std.proofs.Common.{Ok, Err, refl, arith}
 use Rattle.std.specs.Prelude.{decimal, slice_set}
 use Rattle.std.proofs.Math.Numerals.{add-one}
 use Rattle.std.proofs.lemmas.List.{drop_all}
@@ -25,27 +26,27 @@ module _ (w : Written) (factors : List (List ℕ)) (codes : List ℕ) (base : Li
   next : i < count
       → names_folded w factors codes (left i)
       ≡ folded_at w codes (place_of (base ++ decimal (from + i)) factors) >>= rest
-  next h = ap (names_folded w factors codes) (from_here base from count i h)
+  next h = cc (from_here base from count i h)
 
   pub one_more : i < count → (more : List ℕ)
       → folded_at w codes (place_of (base ++ decimal (from + i)) factors) ≡ Ok more
       → names_folded w factors codes (left i) ≡ rest more
-  one_more h more is = next h ∙ ap (λ r. r >>= rest) is
+  one_more h more is = cc (next h)
 
   pub not_one : i < count → (refusal : Refusal)
       → folded_at w codes (place_of (base ++ decimal (from + i)) factors) ≡ Err refusal
       → names_folded w factors codes (left i) ≡ Err refusal
-  not_one h refusal is = next h ∙ ap (λ r. r >>= rest) is
+  not_one h refusal is = cc (next h)
 
   pub none_left : count ≤ i → names_folded w factors codes (left i) ≡ Ok codes
-  none_left h = ap (names_folded w factors codes) (drop_all i (numbered base from count) (rw length-map-range_with_len h))
+  none_left h = cc (drop_all i (numbered base from count) (rw length-map-range_with_len h))
 
 -- a range that is regular, by its names
 pub range_folded : (factors : List (List ℕ)) (codes : List ℕ) (first last : Written)
     → is_range first.text last.text ≡ true
     → item_folded factors codes (item_of first (Some last))
     ≡ names_folded first factors codes (names_between first.text last.text)
-range_folded factors codes first last range = rw range refl
+range_folded factors codes first last range = rw range
 
 -- and by its stem and numbers
 pub all_named : (factors : List (List ℕ)) (codes : List ℕ) (first last : Written)
@@ -55,25 +56,23 @@ pub all_named : (factors : List (List ℕ)) (codes : List ℕ) (first last : Wri
     → item_folded factors codes (item_of first (Some last))
     ≡ names_folded first factors codes (numbered (stem first.text) from count)
 all_named factors codes first last range from count low many =
-    range_folded factors codes first last range
-    ∙ ap (names_folded first factors codes) (sym (ap₂ (numbered (stem first.text)) low many))
+    cc (range_folded factors codes first last range)
 
 -- one more of all factors is folded
 one_more_code : (i rest : ℕ)
     → slice_set (replicate i 1 ++ zeros (suc rest)) i 1 ≡ replicate i 1 ++ 1 ∷ zeros rest
 one_more_code zero rest = refl
-one_more_code (suc i) rest = ap (λ (l : List ℕ). 1 ∷ l) (one_more_code i rest)
+one_more_code (suc i) rest = cc (one_more_code i rest)
 
 pub one_folded : (i n : ℕ) → i < n
     → slice_set (replicate i 1 ++ zeros (n - i)) i 1 ≡ replicate (i + 1) 1 ++ zeros (n - (i + 1))
 one_folded i n h =
-    let left : n - i ≡ suc (n - (i + 1)) = omega (arith, h) in
-    ap (λ k. slice_set (replicate i 1 ++ zeros k) i 1) left ∙ one_more_code i (n - (i + 1))
-    ∙ joined i (zeros (n - (i + 1)))
+    let left : n - i ≡ suc (n - (i + 1)) = omega arith in
+    cc (one_more_code i (n - (i + 1)), joined i (zeros (n - (i + 1))))
   where
     joined : (i : ℕ) (rest : List ℕ) → replicate i 1 ++ 1 ∷ rest ≡ replicate (i + 1) 1 ++ rest
-    joined i rest = both i rest ∙ ap (λ k. replicate k 1 ++ rest) (sym (add-one i))
+    joined i rest = cc (both i rest, add-one i)
       where
         both : (i : ℕ) (rest : List ℕ) → replicate i 1 ++ 1 ∷ rest ≡ replicate (suc i) 1 ++ rest
         both zero rest = refl
-        both (suc i) rest = ap (λ (l : List ℕ). 1 ∷ l) (both i rest)
+        both (suc i) rest = cc (both i rest)

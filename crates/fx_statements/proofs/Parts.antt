@@ -1,7 +1,7 @@
 -- What holds of the statements of an accepted text, and of its names.
-use Rattle.std.proofs.Common.{◌≡◌, ℕ, Bool, true, false, List, [], ◌∷◌, ◌++◌, Option, Some, None, Result, Ok, refl, sym}
-use Rattle.std.proofs.Common.{ap, subst, ◌∙◌, append_assoc}
-use Rattle.std.specs.Prelude.{All, if◌then◌else◌, nat_lt}
+use Rattle.std.proofs.Common.{◌≡◌, ℕ, Bool, true, false, List, [], ◌∷◌, ◌++◌, Option, Some, None, Result, Ok, refl}
+use Rattle.std.proofs.Common.{◌∙◌, append_assoc}
+use Rattle.std.specs.Prelude.{All, if◌then◌else◌}
 use Rattle.std.proofs.lemmas.List.{append-nil}
 use Rattle.std.specs.List.{AllByRecursion}
 use Rattle.fx_language.specs.declared.symbol.Symbol.{Symbol}
@@ -9,7 +9,6 @@ use Rattle.fx_language.specs.Grammar.{program}
 use Rattle.fx_language.specs.Grammar as grammar
 use Rattle.fx_language.specs.Refusals.{refused}
 use Rattle.fx_language.specs.FirstRefusal.{earlier, first_refusal}
-use Rattle.fx_language.specs.Repeats.{repeated}
 use Rattle.fx_lexer.specs.declared.place.Place.{Place}
 use Rattle.fx_text.specs.declared.refusal.Refusal.{Refusal}
 use Rattle.fx_text.specs.Names.{IsName}
@@ -28,18 +27,18 @@ use Rattle.fx_statements.specs.Steps.{factors_by, some_factors}
 pub found : (P : List Written → Type 0) (word : Symbol) (statements : List (List Written)) (s : List Written)
     → AllByRecursion P statements
     → statement_of word statements ≡ Some s → P s × (begins word s ≡ true)
-found P word [] s h e = absurd (cc e)
-found P word (x ∷ statements) s h e = by_start (begins word x) refl e (λ later. found P word statements s h.1 later)
+found P word [] s h e = cc e
+found P word (x ∷ statements) s h e = by_start _ refl e (found P word statements s h.1)
   where
     by_start : (b : Bool) → begins word x ≡ b → (if b then Some x else statement_of word statements) ≡ Some s
         → (statement_of word statements ≡ Some s → P s × (begins word s ≡ true)) → P s × (begins word s ≡ true)
-    by_start true begun e later = let same : x ≡ s = cc e in subst (λ y. P y × (begins word y ≡ true)) same (h.0, begun)
+    by_start true begun e later = let same : x ≡ s = cc e in rw (← same) (h.0, begun)
     by_start false other e later = later e
 
 no_earlier : (a b : Option (ℕ × ℕ)) → earlier a b ≡ None → a ≡ None
 no_earlier None b e = refl
-no_earlier (Some x) None e = absurd (cc e)
-no_earlier (Some x) (Some y) e = absurd (either_way (nat_lt y.1 x.1) e)
+no_earlier (Some x) None e = cc e
+no_earlier (Some x) (Some y) e = absurd (either_way _ e)
   where
     either_way : (b : Bool) → (if b then Some y else Some x) ≡ None → ⊥
     either_way true e = cc e
@@ -47,7 +46,7 @@ no_earlier (Some x) (Some y) e = absurd (either_way (nat_lt y.1 x.1) e)
 
 -- where nothing is refused, the grammar refuses nothing
 pub none_refused : (symbols : List Symbol) → first_refusal symbols ≡ None → refused 0 program symbols ≡ None
-none_refused symbols e = no_earlier (refused 0 program symbols) (repeated [] 0 symbols) e
+none_refused symbols e = no_earlier _ _ e
 
 -- the factors that are accepted have names
 pub named_factors : (proc : Place) (most : ℕ) (named : List Written) (factors : List (List ℕ))
@@ -59,7 +58,7 @@ named_factors proc most named factors by_grammar names e =
   where
     some : (all : List (List ℕ)) → some_factors proc all ≡ Ok factors
         → ◌≡◌ {A = Result (List (List ℕ)) Refusal} (Ok all) (Ok factors)
-    some [] e = absurd (cc e)
+    some [] e = cc e
     some (x ∷ all) e = e
 
 -- the OUT names of steps, with those of one more
@@ -67,5 +66,4 @@ pub names_of_more : (steps : List Step) (step : Step)
     → out_names (steps ++ step ∷ []) ≡ out_names steps ++ names_of step.outputs
 names_of_more [] step = append-nil (names_of step.outputs)
 names_of_more (x ∷ steps) step =
-    ap (λ (l : List (List ℕ)). names_of x.outputs ++ l) (names_of_more steps step) ∙ sym
-    (append_assoc (names_of x.outputs) (out_names steps) (names_of step.outputs))
+    cc (names_of_more steps step, append_assoc (names_of x.outputs) (out_names steps) (names_of step.outputs))

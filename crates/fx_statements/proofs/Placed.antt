@@ -11,11 +11,10 @@ use Rattle.fx_designs.specs.Problems.{Requirement}
 use Rattle.fx_language.specs.declared.symbol.Symbol.TheVariants as symbol
 use Rattle.fx_language.specs.Keywords.{symbols_of}
 use Rattle.fx_language.specs.Refusals.{is_rule}
-use Rattle.fx_language.specs.FirstRefusal.{first_refusal}
 use Rattle.fx_language.proofs.FirstRefusal.{first_by_a_rule}
-use Rattle.fx_text.specs.Written.{Written, begins, written}
+use Rattle.fx_text.specs.Written.{Written, written}
 use Rattle.fx_text.specs.Phrases.{start_of}
-use Rattle.fx_text.specs.Statements.{statements_of, steps_of, statement_of}
+use Rattle.fx_text.specs.Statements.{statements_of}
 use Rattle.fx_text.specs.Refusals.{place_at}
 use Rattle.fx_settings.specs.declared.settings.Criterion.{Criterion}
 use Rattle.fx_settings.specs.declared.settings.Criterion.TheVariants as criterion
@@ -24,18 +23,17 @@ use Rattle.fx_settings.specs.Said.{step_said}
 use Rattle.fx_settings.specs.Settings.{unblocked_of, step_settings_of}
 use Rattle.fx_effects.specs.Models.{lists_of}
 use Rattle.fx_settings.specs.Factors.{names_of_factors}
-use Rattle.fx_settings.specs.Items.{Item, items_behind, is_regular}
+use Rattle.fx_settings.specs.Items.{Item, is_regular}
 use Rattle.fx_settings.specs.Items.{names_of as item_names}
 use Rattle.fx_settings.specs.Valid.{has_blocks}
 use Rattle.fx_settings.specs.declared.settings.StepSettings.{StepSettings}
-use Rattle.fx_designs.specs.Vectors.{zeros}
 use Rattle.fx_text.specs.Names.{place_of}
 use Rattle.fx_statements.specs.Folds.{folded_at, names_folded, item_folded, items_folded, codes_by, fold_in, fold_of}
 use Rattle.fx_outputs.specs.declared.earlier.EarlierPlan.{EarlierPlan}
 use Rattle.fx_outputs.specs.Outputs.{outputs_of}
 use Rattle.fx_statements.specs.Contexts.{context}
 use Rattle.fx_statements.specs.Requirements.{effects_by, effects_required, requirement_by}
-use Rattle.fx_statements.specs.Components.{listed_factors, is_for_components, first_components, components_asked}
+use Rattle.fx_statements.specs.Components.{listed_factors, first_components, components_asked}
 use Rattle.fx_statements.specs.Components.{place_or, components_place, check_components}
 use Rattle.fx_statements.specs.Steps.{Meaning, factor_limit, some_factors, factors_by, head_of, asked_by, step_by}
 use Rattle.fx_statements.specs.Steps.{plans_after, step_of}
@@ -58,7 +56,7 @@ module _ (P : ℕ → ℕ → Type 0) (front : P 1 1) where
   requirement q names statements (criterion.Resolution r) h = tt
   requirement q names statements criterion.Highest h = tt
   requirement q names statements criterion.Effects h =
-      of_model (statement_of symbol.Model statements) (placed.statement P symbol.Model statements h)
+      of_model _ (placed.statement P symbol.Model statements h)
     where
       of_model : (s : Option (List Written)) → IfSome s (ArePlaced P) → Placed P (effects_required q names s)
       of_model None h = effects_placed q names [] tt
@@ -66,7 +64,7 @@ module _ (P : ℕ → ℕ → Type 0) (front : P 1 1) where
 
   first_place : (s : List Written) → ArePlaced P s → IfSome (first_components s) (IsPlace P)
   first_place [] h = tt
-  first_place (w ∷ rest) h = by_test (is_for_components w) (first_place rest h.1)
+  first_place (w ∷ rest) h = by_test _ (first_place rest h.1)
     where
       by_test : (b : Bool) → IfSome (first_components rest) (IsPlace P)
           → IfSome (if b then Some (place_at w) else first_components rest) (IsPlace P)
@@ -78,7 +76,7 @@ module _ (P : ℕ → ℕ → Type 0) (front : P 1 1) where
   either_place (Some place) b h k = h
 
   asked_place : (s : List Written) → ArePlaced P s → IfSome (components_asked s) (IsPlace P)
-  asked_place s h = by_test (begins symbol.Examine s)
+  asked_place s h = by_test _
     where
       by_test : (b : Bool) → IfSome (if b then first_components s else None) (IsPlace P)
       by_test true = first_place s h
@@ -88,7 +86,7 @@ module _ (P : ℕ → ℕ → Type 0) (front : P 1 1) where
       → IfSome (components_place statements) (IsPlace P)
   listing_place [] h = tt
   listing_place (s ∷ rest) h =
-      either_place (components_asked s) (components_place rest) (asked_place s h.0) (listing_place rest h.1)
+      either_place _ _ (asked_place s h.0) (listing_place rest h.1)
 
   few_components : (q s : ℕ) (g : Requirement) (place : Option Place) → IfSome place (IsPlace P)
       → Placed P (check_components q s g place)
@@ -104,7 +102,7 @@ module _ (P : ℕ → ℕ → Type 0) (front : P 1 1) where
       (requirement unblocked.q names statements unblocked.criterion h) (λ g.
       placed.chain P (step_settings_of unblocked said) _ (settings.settings P said k unblocked) (λ x.
       placed.chain P (check_components unblocked.q (length names) g (components_place statements)) _
-      (few_components unblocked.q (length names) g (components_place statements) (listing_place statements h))
+      (few_components unblocked.q (length names) g _ (listing_place statements h))
       (λ listed. tt))))
 
   folded_here : (w : Written) (codes : List ℕ) (i : Option ℕ) → IsPlaced P w → Placed P (folded_at w codes i)
@@ -135,12 +133,12 @@ module _ (P : ℕ → ℕ → Type 0) (front : P 1 1) where
   codes_placed names [] h = tt
   codes_placed names (word ∷ []) h = tt
   codes_placed names (word ∷ w ∷ rest) h =
-      folded_items names (zeros (length names)) (items_behind (word ∷ w ∷ rest)) (factors.items P (word ∷ w ∷ rest) h)
+      folded_items names _ _ (factors.items P (word ∷ w ∷ rest) h)
 
   fold : (names : List (List ℕ)) (x : StepSettings) (statements : List (List Written)) → AreAllPlaced P statements
       → Placed P (fold_of names x statements)
   fold names x statements h =
-      of_statement (statement_of symbol.Foldover statements) (placed.statement P symbol.Foldover statements h)
+      of_statement _ (placed.statement P symbol.Foldover statements h)
     where
       of_statement : (s : Option (List Written)) → IfSome s (ArePlaced P) → Placed P (fold_in names x s)
       of_statement None h = tt
@@ -160,7 +158,7 @@ module _ (P : ℕ → ℕ → Type 0) (front : P 1 1) where
   step : (earlier : List EarlierPlan) (statements : List (List Written)) → AreAllPlaced P statements
       → Placed P (step_of earlier statements)
   step earlier statements h =
-      of_factors (statement_of symbol.Factors statements) (placed.statement P symbol.Factors statements h)
+      of_factors _ (placed.statement P symbol.Factors statements h)
     where
       proc : ArePlaced P (head_of statements)
       proc = head statements h
@@ -175,9 +173,9 @@ module _ (P : ℕ → ℕ → Type 0) (front : P 1 1) where
           placed.chain P (factors_by (start_of (head_of statements)) (factor_limit named statements) named) _
           (placed.chain P (names_of_factors (factor_limit named statements) named) _
           (factors.factors P (factor_limit named statements) named k)
-          (λ names. some (start_of (head_of statements)) names start)) (λ names.
+          (λ names. some _ names start)) (λ names.
           placed.chain P (asked_by names (step_said (head_of statements) named statements) statements) _
-          (asked names (step_said (head_of statements) named statements) statements
+          (asked names _ statements
           (settings.said P (head_of statements) named statements front proc k h) h) (λ x.
           placed.chain P (fold_of names x.0 statements) _ (fold names x.0 statements h) (λ f.
           placed.chain P (outputs_of (context names x.0) earlier statements) _
@@ -210,7 +208,7 @@ pub refused : (text : List ℕ) (tokens : List Token)
     → AllByRecursion (λ (t : Token). IsPlaceIn text t.line t.column) tokens
     → Placed (IsPlaceIn text) (program_of text tokens)
 unfolding program_of
-refused text tokens h = of_first (first_refusal (symbols_of text tokens)) (first_by_a_rule (symbols_of text tokens))
+refused text tokens h = of_first _ (first_by_a_rule (symbols_of text tokens))
   where
     front : IsPlaceIn text 1 1
     front = record { before = []; after = text; joined = refl; line_is = refl; column_is = refl }
@@ -220,6 +218,6 @@ refused text tokens h = of_first (first_refusal (symbols_of text tokens)) (first
     of_first (Some r) rule =
         placed.here (IsPlaceIn text) r.0 (place_in text (slice_get tokens r.1)) rule (place_of_token text tokens r.1 h)
     of_first None rule =
-        steps (IsPlaceIn text) front [] [] (steps_of (statements_of (written text tokens)))
+        steps _ front [] [] _
         (placed.steps (IsPlaceIn text) (statements_of (written text tokens))
         (placed.statements (IsPlaceIn text) (written text tokens) (all_written text tokens h)))

@@ -1,5 +1,5 @@
 -- The lists of a MODEL statement, by the grammar.
-use Rattle.std.proofs.Common.{◌≡◌, ℕ, true, false, List, [], ◌∷◌, ◌++◌, drop, refl, sym, ap, ap₂, ◌∙◌, inl, inr}
+use Rattle.std.proofs.Common.{◌≡◌, ℕ, true, List, [], ◌∷◌, ◌++◌, drop, refl, sym, ap, ◌∙◌, inl, inr}
 use Rattle.std.proofs.Common.{append_assoc, ◌⊎◌}
 use Rattle.std.proofs.lemmas.List.{append-nil}
 use Rattle.fx_language.specs.declared.symbol.Symbol.{Symbol}
@@ -8,7 +8,7 @@ use Rattle.fx_language.specs.Symbols.{is}
 use Rattle.fx_language.specs.Shapes.{Shape, Empty, One, Before, Either, Many}
 use Rattle.fx_language.specs.Grammar as grammar
 use Rattle.fx_text.specs.Written.{Written, begins}
-use Rattle.fx_text.specs.Phrases.{after, preceding, has_symbol}
+use Rattle.fx_text.specs.Phrases.{after, preceding}
 use Rattle.fx_text.specs.Sentences.{IsStatement}
 use Rattle.fx_text.proofs.ByLexemes.{Reads, by_lexemes, before_end, lacking, semicolon}
 use Rattle.fx_text.proofs.Lacking.{after_part, before_part}
@@ -79,8 +79,7 @@ one_second : (rest : List Written) (l : HasList rest) → is symbol.Nonnegligibl
     → IsSecondRead rest
 one_second rest l word =
     let between : preceding symbol.Close (drop 3 rest) ≡ l.list =
-    ap (λ (x : List Written). preceding symbol.Close (drop 3 x)) l.all
-    ∙ before_part symbol.Close l.list l.close l.rest l.between l.closes in
+    cc (before_part symbol.Close l.list l.close l.rest l.between l.closes) in
     inr (l, word, between)
 
 -- the list at the end of its description
@@ -104,11 +103,8 @@ read_lists : (model : Written) (parts : List Written) (l : HasList parts) (q : �
     ≡ lists_at q factors l.word l.list (first_or l.word l.rest) (preceding symbol.Close (drop 3 l.rest))
 read_lists model parts l q factors =
     let closed : after symbol.Close (l.list ++ l.close ∷ l.rest) ≡ l.rest =
-    after_part symbol.Close l.list (l.close ∷ l.rest) l.between ∙ rw l.closes refl in
-    ap (λ (p : List Written). lists_of q factors (model ∷ p)) l.all
-    ∙ ap₂ (λ (first rest : List Written). lists_at q factors l.word first (first_or l.word rest)
-    (preceding symbol.Close (drop 3 rest)))
-    (before_part symbol.Close l.list l.close l.rest l.between l.closes) closed
+    after_part symbol.Close l.list (l.close ∷ l.rest) l.between ∙ rw l.closes in
+    cc (before_part symbol.Close l.list l.close l.rest l.between l.closes)
 
 -- what the grammar has after the first list
 abbrev after_first : Shape
@@ -124,14 +120,14 @@ options = Either (Before (One (is symbol.Slash)) (Before (One (is symbol.Minabs)
 short : (text : List Written) → Reads options text → drop 3 text ≡ []
 short text (inl (x, y, (a, ha, ea), (p, q, b, inr fault, i2), i1)) = absurd fault
 short text (inl (x, y, (a, ha, ea), (p, q, (b, hb, eb), inl none, i2), i1)) =
-    let all : text ≡ a ∷ b ∷ [] = rw (ea, i2, eb, none) at i1 in
-    ap (λ (l : List Written). drop 3 l) all
-short text (inr empty) = ap (λ (l : List Written). drop 3 l) empty
+    let all = rw (ea, i2, eb, none) at i1 in
+    cc
+short text (inr empty) = cc
 
 second_of : (rest more : List Written) → Reads after_first rest → Reads options more → IsSecondRead (rest ++ more)
 second_of rest more (inl n) o =
     let u = ending rest n in
-    one_second (rest ++ more) (before rest more u.list) u.word_is
+    one_second _ (before rest more u.list) u.word_is
 second_of rest more (inr empty) o =
     rw empty (inl (lacking symbol.Open options more refl o, short more o))
 

@@ -1,7 +1,6 @@
 -- The steps of a text, one after another.
 use Rattle.std.proofs.Common.{◌≡◌, ℕ, suc, ◌+◌, ◌-◌, ◌<◌, true, not, List, [], ◌∷◌, ◌++◌, length, take, drop, get_or}
-use Rattle.std.proofs.Common.{Some, Ok, refl, sym, ap, ap₂, ◌∙◌, arith}
-use Rattle.std.specs.Prelude.{if◌then◌else◌}
+use Rattle.std.proofs.Common.{Some, Ok, sym, ap, ◌∙◌, arith}
 use Rattle.std.specs.List.{prefix_len}
 use Rattle.std.proofs.Math.Seq.{drop-cons}
 use Rattle.std.proofs.Math.Numerals.{add-one}
@@ -40,11 +39,11 @@ module _ (statements : List (List Written)) (i len : ℕ) (d : List Written) (h 
       → take (i + (1 + len) - i) (drop i statements) ≡ proc ∷ rest_of_step rest
   slice e =
       let long : i + (1 + len) - i ≡ suc len = omega arith in
-      ap₂ take long from_here ∙ ap (λ n. proc ∷ take n rest) e
+      cc from_here
 
   step_here : begins Proc proc ≡ true → steps_of (drop i statements) ≡ (proc ∷ rest_of_step rest) ∷ steps_of rest
   step_here e =
-      ap steps_of from_here ∙ ap (λ b. if b then (proc ∷ rest_of_step rest) ∷ steps_of rest else steps_of rest) e
+      cc from_here
 
   pub one_step : (earlier : List EarlierPlan) (done : List Meaning) (meaning : Meaning) → begins Proc proc ≡ true
       → len ≡ prefix_len (λ s. not (ends_step s)) rest
@@ -62,7 +61,7 @@ module _ (statements : List (List Written)) (i len : ℕ) (d : List Written) (h 
       → (reason : ParseStop) → IsRefused (step_of earlier (take (i + (1 + len) - i) (drop i statements))) reason
       → IsRefused (steps_behind earlier done (steps_of (drop i statements))) reason
   step_refused earlier done e long reason h =
-      rw (step_here e) (stopped (step_of earlier (proc ∷ rest_of_step rest)) _ reason (rw (slice long) at h))
+      rw (step_here e) (stopped _ _ reason (rw (slice long) at h))
 
 -- one step, from its parts
 module _ (earlier : List EarlierPlan) (statements : List (List Written)) (named : List Written)
@@ -82,7 +81,7 @@ module _ (earlier : List EarlierPlan) (statements : List (List Written)) (named 
         fold = fold;
         outputs = outputs;
       })
-  step_is = rw (is_named, is_asked, is_fold, are_outputs) refl
+  step_is = rw (is_named, is_asked, is_fold, are_outputs)
 
 -- a step whose settings are refused
 pub settings_refused : (earlier : List EarlierPlan) (statements : List (List Written)) (named : List Written)
@@ -92,7 +91,7 @@ pub settings_refused : (earlier : List EarlierPlan) (statements : List (List Wri
     → IsRefused (asked_by factors (step_said (head_of statements) named statements) statements) reason
     → IsRefused (step_by earlier statements (Some named)) reason
 settings_refused earlier statements named factors is_named reason h =
-    rw is_named (stopped (asked_by factors (step_said (head_of statements) named statements) statements) _ reason h)
+    rw is_named (stopped _ _ reason h)
 
 -- a step whose fold or whose outputs are refused
 module _ (earlier : List EarlierPlan) (statements : List (List Written)) (named : List Written)
@@ -103,11 +102,11 @@ module _ (earlier : List EarlierPlan) (statements : List (List Written)) (named 
     ≡ Ok (settings, requirement)) where
   pub fold_refused : (reason : ParseStop) → IsRefused (fold_of factors settings statements) reason
       → IsRefused (step_by earlier statements (Some named)) reason
-  fold_refused (stop.Refused refusal) h = rw (is_named, is_asked, h) refl
+  fold_refused (stop.Refused refusal) h = rw (is_named, is_asked, h)
   fold_refused stop.NoMemory h = tt
 
   pub outputs_refused : (fold : Fold) → fold_of factors settings statements ≡ Ok fold → (reason : ParseStop)
       → IsRefused (outputs_of (context factors settings) earlier statements) reason
       → IsRefused (step_by earlier statements (Some named)) reason
-  outputs_refused fold is_fold (stop.Refused refusal) h = rw (is_named, is_asked, is_fold, h) refl
+  outputs_refused fold is_fold (stop.Refused refusal) h = rw (is_named, is_asked, is_fold, h)
   outputs_refused fold is_fold stop.NoMemory h = tt

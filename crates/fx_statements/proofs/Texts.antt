@@ -28,24 +28,24 @@ steps text = by text (lexed text)
 
 factors : List ℕ → Result (List (List (List ℕ))) Refusal
 unfolding steps
-factors text = steps text >>= (λ (all : List Meaning). Ok (map (λ (x : Meaning). x.factors) all))
+factors text = steps text >>= (λ (all : List Meaning). Ok (map (λ x. x.factors) all))
 
 criteria : List ℕ → Result (List Criterion) Refusal
 unfolding steps
-criteria text = steps text >>= (λ (all : List Meaning). Ok (map (λ (x : Meaning). x.settings.criterion) all))
+criteria text = steps text >>= (λ (all : List Meaning). Ok (map (λ x. x.settings.criterion) all))
 
 requirements : List ℕ → Result (List Requirement) Refusal
 unfolding steps
-requirements text = steps text >>= (λ (all : List Meaning). Ok (map (λ (x : Meaning). x.requirement) all))
+requirements text = steps text >>= (λ (all : List Meaning). Ok (map (λ x. x.requirement) all))
 
 sections : List ℕ → Result (List Examine) Refusal
 unfolding steps
-sections text = steps text >>= (λ (all : List Meaning). Ok (map (λ (x : Meaning). x.examine) all))
+sections text = steps text >>= (λ (all : List Meaning). Ok (map (λ x. x.examine) all))
 
 -- how many files each step asks for
 files : List ℕ → Result (List ℕ) Refusal
 unfolding steps
-files text = steps text >>= (λ (all : List Meaning). Ok (map (λ (x : Meaning). length x.outputs) all))
+files text = steps text >>= (λ (all : List Meaning). Ok (map (λ x. length x.outputs) all))
 
 -- a text is refused by a code, at a column of its first line
 refused_at : {A : Type 0} → ℕ → ℕ → Result A Refusal

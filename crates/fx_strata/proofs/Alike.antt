@@ -1,10 +1,8 @@
 -- Isomorphic designs have as many clear words.
-use Rattle.std.proofs.Common.{ℕ, ◌≡◌, cond, eqb, ◌&&◌, ◌||◌, List, [], ◌∷◌, map, length, zero, suc, refl, sym, ◌∙◌}
-use Rattle.std.proofs.Common.{ap₂}
-use Rattle.std.specs.Prelude.{nat_lt}
+use Rattle.std.proofs.Common.{ℕ, ◌≡◌, List, [], ◌∷◌, map, length, zero, suc, refl, ◌∙◌}
 use Rattle.std.proofs.lemmas.List.Elements.{recursion_from_All}
 use Rattle.fx_designs.specs.Galois.{IsField}
-use Rattle.fx_designs.specs.Vectors.{IsVector, weight, combination}
+use Rattle.fx_designs.specs.Vectors.{combination}
 use Rattle.fx_designs.specs.Runs.{points}
 use Rattle.fx_laws.specs.Changes.{IsChange}
 use Rattle.fx_laws.specs.Scalings.{AreScalars, scaled}
@@ -25,7 +23,7 @@ module _ (x : Strata) (f : IsField x.q) (base : List (List ℕ)) where
   unfolding words_in
   alike xs ys h =
       let effects : (v : List ℕ) → effects_at x.q x.m xs v ≡ effects_at x.q x.m ys v = λ v.
-      effects-total x.q x.m f xs v ∙ h (near x.q x.m f v) ∙ sym (effects-total x.q x.m f ys v) in
+      cc (effects-total x.q x.m f xs v, h (near x.q x.m f v), effects-total x.q x.m f ys v) in
       sum_by-ext _ _ (points x.q (length xs))
       (λ u. cc (effects (combination x.q x.m u xs)))
       ∙ h (counted x.q x.m f (is_unclear_sum x base ys) 2)
@@ -48,36 +46,41 @@ module _ (x : Strata) (f : IsField x.q) (base : List (List ℕ)) where
     unfolding words_in
     by-change a change =
         cc (
-          unclear-are-sums x f (map a base) (map a factors) (map-vectors x.q x.m f a change base hb)
+          unclear-are-sums x f _ _ (map-vectors x.q x.m f a change base hb)
               (map-vectors x.q x.m f a change factors hf),
           total-changed x.q x.m f (counted x.q x.m f (is_unclear_sum x (map a base) (map a factors)) 2) a change
               factors hf,
           total-same x.q x.m f (counted x.q x.m f (is_unclear_sum x base factors) 2)
               (λ j v. counted x.q x.m f (is_unclear_sum x (map a base) (map a factors)) 2 j (a v)) factors factors refl
-              (λ u hu. let v : List ℕ = combination x.q x.m u factors in let hv : IsVector x.q x.m
-              v = combination-vector
-              x.q x.m f u factors hf in ap₂ (λ i (n : ℕ). cond {A = ℕ} ((i || nat_lt 1 n) && eqb (weight u) 2) 1 0)
-              (in_span-change x.q x.m f a change base v hb hv) (effects-changed x.q x.m f a change v hv factors hf)),
+              (λ u hu. let v = combination x.q x.m u factors in let hv = combination-vector
+              x.q x.m f u factors hf in
+              cc (in_span-change x.q x.m f a change base v hb hv, effects-changed x.q x.m f a change v hv factors hf)),
           unclear-are-sums x f base factors hb hf,
         )
 
     by-order : (ks : List ℕ) → unclear_of x base (reordered ks factors) ≡ unclear_of x base factors
     by-order ks =
-        unclear-are-sums x f base (reordered ks factors) hb (reordered-vectors ks factors hf)
-        ∙ alike (reordered ks factors) factors (λ g. total-reordered x.q x.m f g ks factors)
-        ∙ sym (unclear-are-sums x f base factors hb hf)
+        cc (
+          unclear-are-sums x f base _ hb (reordered-vectors ks factors hf),
+          alike (reordered ks factors) factors
+              (λ g. total-reordered x.q x.m f g ks factors),
+          unclear-are-sums x f base factors hb hf,
+        )
 
     by-multiples : (cs : List ℕ) → AreScalars x.q cs → length cs ≡ length factors
         → unclear_of x base (scaled x.q cs factors) ≡ unclear_of x base factors
     by-multiples cs h e =
-        unclear-are-sums x f base (scaled x.q cs factors) hb (scaled-vectors x.q f x.m cs factors hf)
-        ∙ alike (scaled x.q cs factors) factors (λ g. total-scaled x.q x.m f g cs factors h e)
-        ∙ sym (unclear-are-sums x f base factors hb hf)
+        cc (
+          unclear-are-sums x f base _ hb (scaled-vectors x.q f x.m cs factors hf),
+          alike (scaled x.q cs factors)
+              factors (λ g. total-scaled x.q x.m f g cs factors h e),
+          unclear-are-sums x f base factors hb hf,
+        )
 
 pub same_clear : (x : Strata) (f : IsField x.q) → SameClear x
 same_clear x f base factors hb hf =
-    let hb' = recursion_from_All (λ r. IsVector x.q x.m r) base hb in
-    let hf' = recursion_from_All (λ r. IsVector x.q x.m r) factors hf in
+    let hb' = recursion_from_All _ base hb in
+    let hf' = recursion_from_All _ factors hf in
     record {
       change = by-change x f base factors hb' hf';
       order = by-order x f base factors hb' hf';

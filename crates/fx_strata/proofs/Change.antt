@@ -1,6 +1,6 @@
 -- A change of the run indexes that takes some rows to the unit vectors is invertible.
 use Rattle.std.proofs.Common.{ℕ, ◌≡◌, ◌<◌, ◌≤◌, ◌+◌, zero, suc, true, cond, List, [], ◌∷◌, ◌++◌, map, length}
-use Rattle.std.proofs.Common.{refl, sym, subst, ◌∙◌, ap, ap₂, arith, inl, inr}
+use Rattle.std.proofs.Common.{refl, sym, subst, ◌∙◌, ap, arith, inl, inr}
 use Rattle.std.proofs.lemmas.Bool.{cases_Bool}
 use Rattle.std.proofs.lemmas.List.{length-map, map-append}
 use Rattle.fx_designs.specs.Galois.{add, mul, IsField}
@@ -31,7 +31,7 @@ combination-levels q f m a (c ∷ u) (r ∷ rows) =
           (combination q m u rows),
       levels-scale q f a c r,
       combination-levels q f m a u rows,
-    ) refl
+    )
 
 -- no rank is above the length of the rows
 pub rank-most : (q m : ℕ) (f : IsField q) (rows : List (List ℕ)) → AreVectors q m rows → rank_of q m rows ≤ m
@@ -39,10 +39,9 @@ rank-most q m f rows h =
     let made = to_form q m f rows h in
     let same = rank-change q m f made.0 made.1.change [] rows tt h in
     let is =
-    rank-formed q m f 0 made.1.rank [] (map made.0 rows) (map-vectors q m f made.0 made.1.change rows h)
+    rank-formed q m f 0 made.1.rank [] _ (map-vectors q m f made.0 made.1.change rows h)
     (spans-none q m f) made.1.formed in
-    let low = formed-room m 0 made.1.rank (map made.0 rows) made.1.formed (omega arith) in
-    omega arith
+    omega (arith, formed-room m 0 made.1.rank _ made.1.formed (omega arith))
 
 -- the sum of the unit vectors, each times an entry
 unit-onto : (q m k a : ℕ) (f : IsField q) (v : List ℕ) → a < q → k < m → IsVector q m (zeros (suc k) ++ v)
@@ -52,21 +51,21 @@ unit-onto q (suc m) zero a f v low room h =
     let hv : IsVector q m v = record { len = (let e = h.len in omega arith); codes = h.codes.1 } in
     let first : add q (mul q a 1) 0 ≡ a = cc (f.mul_one a low, f.add_zero a low) in
     let none = scaled-zeros m in
-    rw (first, none, zeros-plus q m f v hv) refl
+    rw (first, none, zeros-plus q m f v hv)
   where
     scaled-zeros : (n : ℕ) → scale q a (zeros n) ≡ zeros n
     scaled-zeros zero = refl
-    scaled-zeros (suc n) = rw (f.mul_zero a, scaled-zeros n) refl
+    scaled-zeros (suc n) = rw (f.mul_zero a, scaled-zeros n)
 unit-onto q (suc m) (suc k) a f v low room h =
     let hv : IsVector q m (zeros (suc k) ++ v) = record { len = (let e = h.len in omega arith); codes = h.codes.1 } in
-    let first : add q (mul q a 0) 0 ≡ 0 = cc (f.mul_zero a, f.add_zero 0 (omega (arith, f.more_than_one))) in
-    ap₂ (λ x y. x ∷ y) first (unit-onto q m k a f v low (omega arith) hv)
+    let first : add q (mul q a 0) 0 ≡ 0 = cc (f.mul_zero a, f.add_zero 0 (omega arith)) in
+    cc (unit-onto q m k a f v low (omega arith) hv)
 
 zeros-on : (q m k : ℕ) (f : IsField q) (v : List ℕ) → IsVector q m v → IsVector q (k + m) (zeros k ++ v)
-zeros-on q m zero f v h = subst (λ n. IsVector q n v) (let e : m ≡ 0 + m = omega arith in e) h
+zeros-on q m zero f v h = rw (let e : m ≡ 0 + m = omega arith in e) at h
 zeros-on q m (suc k) f v h =
     let rest = zeros-on q m k f v h in
-    record { len = (let e = rest.len in omega arith); codes = (omega (arith, f.more_than_one), rest.codes) }
+    record { len = (let e = rest.len in omega arith); codes = (omega arith, rest.codes) }
 
 no-more : (n : ℕ) → zeros n ≡ zeros n ++ []
 no-more zero = refl
@@ -79,9 +78,8 @@ combination-units q m k zero f (a ∷ v) e h = absurd (let e' = h.len in omega a
 combination-units q m k (suc j) f [] e h = absurd (let e' = h.len in omega arith)
 combination-units q m k (suc j) f (a ∷ v) e h =
     let hv : IsVector q j v = record { len = (let e' = h.len in omega arith); codes = h.codes.1 } in
-    let full : IsVector q m (zeros (suc k) ++ v) =
-    subst (λ n. IsVector q n (zeros (suc k) ++ v)) (let e' : suc k + j ≡ m = omega arith in e')
-    (zeros-on q j (suc k) f v hv) in
+    let full =
+    rw (let e' : suc k + j ≡ m = omega arith in e') at (zeros-on q j (suc k) f v hv) in
     cc (combination-units q m (suc k) j f v (omega arith) hv, unit-onto q m k a f v h.codes.0 (omega arith) full)
 
 module _ (q m : ℕ) (f : IsField q) (rows : List (List ℕ)) (len : length rows ≡ m) where
@@ -98,33 +96,34 @@ module _ (q m : ℕ) (f : IsField q) (rows : List (List ℕ)) (len : length rows
   pub rank-lifted : (k j : ℕ) (bs ws : List (List ℕ)) → k + j ≤ m → AreVectors q m bs → AreVectors q m ws
       → Spans q m k (map by bs) → map by ws ≡ units_from m k j → rank_after q m bs ws ≡ j
   rank-lifted k zero bs [] e hb hw h is = refl
-  rank-lifted k zero bs (w ∷ ws) e hb hw h is = absurd (cc is)
-  rank-lifted k (suc j) bs [] e hb hw h is = absurd (cc is)
+  rank-lifted k zero bs (w ∷ ws) e hb hw h is = cc is
+  rank-lifted k (suc j) bs [] e hb hw h is = cc is
   rank-lifted k (suc j) bs (w ∷ ws) e hb hw h is =
       let first : by w ≡ unit m k = cc is in
-      let rest : map by ws ≡ units_from m (suc k) j = cc is in
       let room : k < m = omega arith in
       let out = in_span-none q m f bs w hb hw.0 (λ s.
-      unit-long m k room (subst (IsShort k) first (spans-short q m f k (map by bs) (by w) h
+      unit-long m k room (subst (IsShort k) first (spans-short q m f k _ (by w) h
       (record {
         by = s.by;
         vector = rw (length-map bs by) s.vector;
         gives =
-            by-combination s.by bs ∙ ap by s.gives;
+            cc (by-combination s.by bs);
       })))) in
       let next : Spans q m (suc k) (map by (bs ++ w ∷ [])) =
       subst (Spans q m (suc k)) (sym (map-append by bs (w ∷ []) ∙ ap (λ z. map by bs ++ z ∷ []) first))
-      (spans-new q m f k (map by bs) room h) in
-      let later = rank-lifted (suc k) j (bs ++ w ∷ []) ws (omega arith)
-      (each-append (λ r. IsVector q m r) bs (w ∷ []) hb (hw.0, tt)) hw.1 next rest in
-      rw out (omega arith)
+      (spans-new q m f k _ room h) in
+      rw out (omega (
+        arith,
+        rank-lifted (suc k) j (bs ++ w ∷ []) ws (omega arith)
+            (each-append _ bs _ hb (hw.0, tt)) hw.1 next (cc is),
+      ))
 
   module _ (ws : List (List ℕ)) (hw : AreVectors q m ws) (is : map by ws ≡ units_from m 0 m) where
     alone : (u : List ℕ) → IsVector q m u → by u ≡ zeros m → u ≡ zeros m
     alone u hu none =
         let rank = rank-lifted 0 m [] ws (omega arith) tt hw (spans-none q m f) is in
         let most =
-        rank-most q m f (ws ++ u ∷ []) (each-append (λ r. IsVector q m r) ws (u ∷ []) hw (hu, tt)) in
+        rank-most q m f _ (each-append _ ws (u ∷ []) hw (hu, tt)) in
         let more =
         rank-snoc q m f [] ws u in
         let inside : in_span q m ws u ≡ true =
@@ -135,16 +134,15 @@ module _ (q m : ℕ) (f : IsField q) (rows : List (List ℕ)) (len : length rows
               cc in omega arith)
         ] in
         let s = in_span-true q m f ws u hw hu inside in
-        let count : length ws ≡ m = sym (length-map ws by) ∙ ap (λ (l : List (List ℕ)). length l) is ∙ many 0 m in
-        let none' : combination q m s.by (units_from m 0 m) ≡ zeros m = ap (combination q m s.by) (sym is)
-        ∙ by-combination s.by ws ∙ ap by s.gives ∙ none in
-        let zero_by : s.by ≡ zeros m = sym
+        let count : length ws ≡ m = cc (length-map ws by, many 0 m) in
+        let none' : combination q m s.by (units_from m 0 m) ≡ zeros m = cc (by-combination s.by ws) in
+        let zero_by = sym
         (combination-units q m 0 m f s.by (omega arith) (rw count at s.vector)) ∙ none' in
         cc (s.gives, none-combination q m f m ws hw)
       where
         many : (k j : ℕ) → length (units_from m k j) ≡ j
         many k zero = refl
-        many k (suc j) = (let e = many (suc k) j in omega arith)
+        many k (suc j) = (omega (arith, many (suc k) j))
 
     pub is-change : IsChange q m by
     is-change = record {

@@ -1,5 +1,5 @@
 -- With more rows no word of two factors becomes clear.
-use Rattle.std.proofs.Common.{ℕ, ◌≡◌, ◌<◌, ◌≤◌, true, eqb, List, ◌++◌, length}
+use Rattle.std.proofs.Common.{ℕ, ◌≡◌, ◌<◌, ◌≤◌, true, List, ◌++◌, length}
 use Rattle.std.proofs.Common.{arith, inl, inr, le_trans}
 use Rattle.std.specs.Prelude.{nat_lt}
 use Rattle.std.proofs.lemmas.Bool.{or_cases, or_left, or_right, lt-ltb, ltb-true}
@@ -7,7 +7,6 @@ use Rattle.std.proofs.lemmas.List.{map-append}
 use Rattle.std.proofs.lemmas.List.Elements.{recursion_from_All}
 use Rattle.fx_designs.specs.Galois.{IsField, digits}
 use Rattle.fx_designs.specs.Vectors.{IsVector, weight, combination, vectors_of}
-use Rattle.fx_designs.specs.Runs.{points}
 use Rattle.fx_designs.specs.Spans.{in_span}
 use Rattle.fx_laws.proofs.Shift.{all-points}
 use Rattle.fx_laws.proofs.Raises.{sum_by-le}
@@ -28,7 +27,7 @@ module _ (x : Strata) (f : IsField x.q) where
       let vs = vectors_of x.q x.m s in
       let more = total-more x.q x.m f g vs vc (rows-vectors x.q x.m f s) (rows-vectors x.q x.m f c) in
       let last : total x.q x.m f g (vs ++ vc) ≡ total x.q x.m f g (vectors_of x.q x.m (c ++ s)) =
-      cc (total-turned x.q x.m f g vs vc, map-append (λ r. digits x.q x.m r) c s) in
+      cc (total-turned x.q x.m f g vs vc, map-append (digits x.q x.m) c s) in
       omega arith
 
   -- of a greater value there is no less
@@ -38,17 +37,20 @@ module _ (x : Strata) (f : IsField x.q) where
       → total x.q x.m f g zs ≤ total x.q x.m f h zs
   total-less g h zs less =
       sum_by-le (λ u. g (weight u) (combination x.q x.m u zs)) (λ u. h (weight u) (combination x.q x.m u zs))
-      (points x.q (length zs))
-      (recursion_from_All _ (points x.q (length zs)) (all-points x.q (length zs) (omega arith)
+      _
+      (recursion_from_All _ _ (all-points x.q _ (omega arith)
       (λ u. g (weight u) (combination x.q x.m u zs) ≤ h (weight u) (combination x.q x.m u zs)) less))
 
   pub effects-longer : (c s v : List ℕ)
       → effects_at x.q x.m (vectors_of x.q x.m c) v ≤ effects_at x.q x.m (vectors_of x.q x.m (c ++ s)) v
   effects-longer c s v =
-      let a = effects-total x.q x.m f (vectors_of x.q x.m c) v in
-      let b = effects-total x.q x.m f (vectors_of x.q x.m (c ++ s)) v in
-      let more = total-longer (near x.q x.m f v) c s in
-      omega arith
+      omega (
+        arith,
+        effects-total x.q x.m f (vectors_of x.q x.m c) v,
+        effects-total x.q x.m f
+            (vectors_of x.q x.m (c ++ s)) v,
+        total-longer (near x.q x.m f v) c s,
+      )
 
   pub unclear-longer : (c s v : List ℕ) → is_unclear_sum x (base x) (vectors_of x.q x.m c) v ≡ true
       → is_unclear_sum x (base x) (vectors_of x.q x.m (c ++ s)) v ≡ true
@@ -69,7 +71,7 @@ module _ (x : Strata) (f : IsField x.q) where
       let new = is_unclear_sum x (base x) (vectors_of x.q x.m (c ++ s)) in
       le_trans
       (total-less (counted x.q x.m f old 2) (counted x.q x.m f new 2) (vectors_of x.q x.m c)
-      (λ u hu. one-less (old (combination x.q x.m u (vectors_of x.q x.m c)))
-      (new (combination x.q x.m u (vectors_of x.q x.m c))) (eqb (weight u) 2)
+      (λ u hu. one-less _
+      _ _
       (unclear-longer c s (combination x.q x.m u (vectors_of x.q x.m c)))))
       (total-longer (counted x.q x.m f new 2) c s)

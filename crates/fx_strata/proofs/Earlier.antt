@@ -4,7 +4,7 @@ use Rattle.std.proofs.Common.{[], ◌∷◌, ◌++◌, map, length, take, drop, 
 use Rattle.std.proofs.Common.{◌⊎◌}
 use Rattle.std.proofs.Common.{eqb-true, eq-eqb, append-nil, take-append-drop, length-append}
 use Rattle.std.specs.Prelude.{nat_le}
-use Rattle.std.specs.List.{AllByRecursion, filter, range_with_len}
+use Rattle.std.specs.List.{AllByRecursion, filter}
 use Rattle.std.proofs.Math.Nat.{pow-le-pow_right}
 use Rattle.std.proofs.lemmas.Bool.{cases_Bool, cases_eq, cond-true, cond-false, and_parts, ne_eqb, false_from_ne_true}
 use Rattle.std.proofs.lemmas.Bool.Decides.{nat_tests}
@@ -64,16 +64,16 @@ from-parts : (g : ℕ → ℕ) (y : ℕ) (as' os rest more rows : List ℕ) → 
 from-parts g y as' os rest more rows e e' h =
     elim (member-split y (map g as') (map g os) (subst (IsMember y) (map-append g as' os) h)) [
       | inl a ↦ subst (IsMember y) (sym (cc (map-append g as' rest)))
-          (member-left y (map g as') (map g rest) a)
+          (member-left y _ (map g rest) a)
       | inr b ↦ subst (IsMember y) (sym (cc (map-append g os more)))
-          (member-left y (map g os) (map g more) b)
+          (member-left y _ (map g more) b)
     ]
 
 falling-below : (n : ℕ) → AllByRecursion (λ r. r < n) (falling n)
 falling-below zero = tt
 falling-below (suc n) = (
   omega arith,
-  each-weaker (λ r. r < n) (λ r. r < suc n) (falling n) (λ r h. omega arith) (falling-below n),
+  each-weaker _ (λ r. r < suc n) _ (λ r h. omega arith) (falling-below n),
 )
 
 module _ (d : Dimensions) (f : IsField d.q) where
@@ -87,10 +87,9 @@ module _ (d : Dimensions) (f : IsField d.q) where
   later-range from len bound [] h l = tt
   later-range from len bound (r ∷ rows) h l =
       let p = and_parts (is_normal (digits d.q d.m r)) (not (is_unit d r) && nat_le (d.q ^ from) r) l.0 in
-      let p' = and_parts (not (is_unit d r)) (nat_le (d.q ^ from) r) p.1 in
       let under = l.1 in (
         record {
-          low = (let t = p'.1 in grind (arith, nat_tests, t));
+          low = (grind (arith, nat_tests, (and_parts (not (is_unit d r)) (nat_le (d.q ^ from) r) p.1).1));
           high = omega arith;
         },
         later-range from len r rows (omega arith) l.2,
@@ -100,11 +99,11 @@ module _ (d : Dimensions) (f : IsField d.q) where
       → AllByRecursion (λ r. InRange from len r) rows
   stage-range from len rows s =
       subst (AllByRecursion (λ r. InRange from len r)) (sym s.is)
-      (each-append (λ r. InRange from len r) (units d.q from len) s.others
-      (each-map (λ r. InRange from len r) (λ i. d.q ^ i) (range_with_len from len)
+      (each-append _ _ s.others
+      (each-map _ _ _
       (each-range (λ i. InRange from len (d.q ^ i)) from len (λ i low high. record {
         low = pow-le-pow_right (omega arith) low;
-        high = pow-less d f i (from + len) high;
+        high = pow-less d f i _ high;
       })))
       (later-range from len (d.q ^ (from + len)) s.others (omega arith) s.later))
 
@@ -115,10 +114,12 @@ pub shorts : (x : Strata) (f : IsField x.q) → x.h ≤ x.m → (rs : List ℕ)
 shorts x f room [] h = tt
 shorts x f room (r ∷ rs) h =
     let some : 0 < x.q = omega arith in
-    let below : r < x.q ^ x.h = subst (λ n. r < x.q ^ n) (let e : 0 + x.h ≡ x.h = omega arith in e) h.0.high in
-    let wide = pow-le-pow_right some room in
-    let is = number-digits x.q x.m r some (omega arith) in
-    (number-short x.q x.m x.h f (digits x.q x.m r) (digits-vector x.q x.m r some) (omega arith), shorts x f room rs h.1)
+    let below = rw (let e : 0 + x.h ≡ x.h = omega arith in e) at h.0.high in
+    let wide = pow-le-pow_right some room in (
+      number-short x.q x.m x.h f _ (digits-vector x.q x.m r some)
+          (omega (arith, number-digits x.q x.m r some (omega arith))),
+      shorts x f room rs h.1,
+    )
 
 module _ (x : Strata) (f : IsField x.q) where
   -- a front part put in order is under the whole
@@ -131,10 +132,10 @@ module _ (x : Strata) (f : IsField x.q) where
 
   under-first : (xs ys : List ℕ) → IsUnder (first_in_order x xs) (first_in_order x (xs ++ ys))
   under-first xs ys = elim (cases_Bool (eqb x.w 0)) [
-    | inl t ↦ rw (cond-true (eqb x.w 0) [] (in_order (dimensions_of x) 0 x.h xs) t) tt
-    | inr o ↦ rw (cond-false (eqb x.w 0) [] (in_order (dimensions_of x) 0 x.h xs) o)
+    | inl t ↦ rw (cond-true _ [] (in_order (dimensions_of x) 0 x.h xs) t) tt
+    | inr o ↦ rw (cond-false _ [] (in_order (dimensions_of x) 0 x.h xs) o)
         (subst (IsUnder (in_order (dimensions_of x) 0 x.h xs))
-        (sym (cond-false (eqb x.w 0) [] (in_order (dimensions_of x) 0 x.h (xs ++ ys)) o))
+        (sym (cond-false _ [] (in_order (dimensions_of x) 0 x.h (xs ++ ys)) o))
         (under-in-order 0 x.h xs ys))
   ]
 
@@ -205,23 +206,23 @@ module _ (x : Strata) (f : IsField x.q) (c s change : List ℕ) (h : has_earlier
   second_test = brings x change x.h (x.m - x.h) (second_known x c)
 
   h1 : (eqb (length change) x.m ≡ true) × ((is_exchange x change c && is_less c (image x change c)) ≡ true)
-  h1 = and_parts (eqb (length change) x.m) (is_exchange x change c && is_less c (image x change c)) h
+  h1 = and_parts _ _ h
 
   h2 : (is_exchange x change c ≡ true) × (is_less c (image x change c) ≡ true)
-  h2 = and_parts (is_exchange x change c) (is_less c (image x change c)) h1.1
+  h2 = and_parts _ _ h1.1
 
   h4 : (first_test ≡ true) × (second_test ≡ true)
   h4 = and_parts first_test second_test h2.0
 
   count : length change ≡ x.m
-  count = eqb-true (length change) x.m h1.0
+  count = eqb-true _ x.m h1.0
 
   first-comes : (i : ℕ) → i < x.h → IsMember (x.q ^ i) (map g (first_known x c))
-  first-comes i low = brought x f room change count 0 x.h (first_known x c) h4.0 i (omega arith) (omega arith)
+  first-comes i low = brought x f room change count 0 x.h _ h4.0 i (omega arith) (omega arith)
 
   second-comes : (i : ℕ) → x.h ≤ i → i < x.m → IsMember (x.q ^ i) (map g (second_known x c))
   second-comes i low high =
-      brought x f room change count x.h (x.m - x.h) (second_known x c) h4.1 i low (omega (arith, room))
+      brought x f room change count x.h _ _ h4.1 i low (omega (arith, room))
 
   -- rows of the base
   InBase : ℕ → Type 0
@@ -231,8 +232,8 @@ module _ (x : Strata) (f : IsField x.q) (c s change : List ℕ) (h : has_earlier
   unfolding InBase
   first-range = elim (D.laid.first) [
     | inl e ↦ inl e
-    | inr st ↦ inr (each-weaker (InRange (dimensions_of x) f 0 x.h) (λ r. r < x.q ^ x.h) a
-        (λ r k. subst (λ n. r < x.q ^ n) (let e : 0 + x.h ≡ x.h = omega arith in e) k.high)
+    | inr st ↦ inr (each-weaker _ (λ r. r < x.q ^ x.h) a
+        (λ r k. rw (let e : 0 + x.h ≡ x.h = omega arith in e) at k.high)
         (stage-range (dimensions_of x) f 0 x.h a st))
   ]
 
@@ -240,12 +241,12 @@ module _ (x : Strata) (f : IsField x.q) (c s change : List ℕ) (h : has_earlier
   unfolding InBase
   known-low = elim (cases_eq x.w 0) [
     | inl e ↦ subst (AllByRecursion (λ r. r < x.q ^ x.h))
-        (sym (cond-true (eqb x.w 0) (falling (x.q ^ x.h)) (units x.q 0 x.h ++ take x.w c) (eq-eqb x.w 0 e)))
+        (sym (cond-true _ (falling (x.q ^ x.h)) (units x.q 0 x.h ++ take x.w c) (eq-eqb x.w 0 e)))
         (falling-below (x.q ^ x.h))
     | inr ne ↦ subst (AllByRecursion (λ r. r < x.q ^ x.h))
-        (sym (cond-false (eqb x.w 0) (falling (x.q ^ x.h)) (units x.q 0 x.h ++ take x.w c) (ne_eqb x.w 0 ne)))
-        (each-append (λ r. r < x.q ^ x.h) (units x.q 0 x.h) (take x.w c)
-        (each-map (λ r. r < x.q ^ x.h) (λ i. x.q ^ i) (range_with_len 0 x.h)
+        (sym (cond-false _ (falling (x.q ^ x.h)) (units x.q 0 x.h ++ take x.w c) (ne_eqb x.w 0 ne)))
+        (each-append _ _ (take x.w c)
+        (each-map _ _ _
         (each-range (λ i. x.q ^ i < x.q ^ x.h) 0 x.h
         (λ i low high. pow-less (dimensions_of x) f i x.h (omega arith))))
         (elim first-range [
@@ -260,10 +261,10 @@ module _ (x : Strata) (f : IsField x.q) (c s change : List ℕ) (h : has_earlier
   move v = by x f room change count v
 
   turns : IsChange x.q x.m move
-  turns = is-change x f room change count (first_known x c) (second_known x c) first-comes second-comes
+  turns = is-change x f room change count _ _ first-comes second-comes
 
   kept : (v : List ℕ) → IsVector x.q x.m v → in_span x.q x.m (base x) (move v) ≡ in_span x.q x.m (base x) v
-  kept = keeps x f room change count (first_known x c) (second_known x c) first-comes second-comes known-low
+  kept = keeps x f room change count _ _ first-comes second-comes known-low
 
   abbrev xs : List (List ℕ)
   xs = vectors_of x.q x.m a
@@ -279,9 +280,11 @@ module _ (x : Strata) (f : IsField x.q) (c s change : List ℕ) (h : has_earlier
   base-rows [] l = tt
   base-rows (r ∷ rows) l =
       let v = digits x.q x.m r in
-      let hv = digits-vector x.q x.m r some in
-      let here = number-digits x.q x.m r some (omega (arith, wide)) in
-      (base-in x f room v hv (number-short x.q x.m x.h f v hv (omega arith)), base-rows rows l.1)
+      let hv = digits-vector x.q x.m r some in (
+        base-in x f room v hv
+            (number-short x.q x.m x.h f v hv (omega (arith, number-digits x.q x.m r some (omega (arith, wide))))),
+        base-rows rows l.1,
+      )
 
   other-rows : (rows : List ℕ) → AllByRecursion (λ r. InRange (dimensions_of x) f x.h (x.m - x.h) r) rows
       → AllByRecursion (λ v. in_span x.q x.m (base x) v ≡ false) (vectors_of x.q x.m rows)
@@ -289,12 +292,12 @@ module _ (x : Strata) (f : IsField x.q) (c s change : List ℕ) (h : has_earlier
   other-rows (r ∷ rows) l =
       let v = digits x.q x.m r in
       let hv = digits-vector x.q x.m r some in
-      let top : r < x.q ^ x.m =
-      subst (λ n. r < x.q ^ n) (let e : x.h + (x.m - x.h) ≡ x.m = omega (arith, room) in e) l.0.high in
-      let here = number-digits x.q x.m r some top in
+      let top =
+      rw (let e : x.h + (x.m - x.h) ≡ x.m = omega (arith, room) in e) at l.0.high in
       let low = l.0.low in (
-        false_from_ne_true (in_span x.q x.m (base x) v)
-            (λ t. let short = short-number x.q x.m x.h f v hv (in-base x f room v hv t) in omega arith),
+        false_from_ne_true _
+            (λ t. omega
+            (arith, number-digits x.q x.m r some top, short-number x.q x.m x.h f v hv (in-base x f room v hv t))),
         other-rows rows l.1,
       )
 
@@ -311,8 +314,8 @@ module _ (x : Strata) (f : IsField x.q) (c s change : List ℕ) (h : has_earlier
           base-rows a l,
           λ i low. subst (IsMember (x.q ^ i)) (sym (nums-are a))
               (let e = front-more x.w c s in
-              from-parts g (x.q ^ i) (units x.q 0 x.h) (take x.w c) st.others e.0 a st.is e.1
-              (rw (cond-false (eqb x.w 0) (falling (x.q ^ x.h)) (units x.q 0 x.h ++ take x.w c)
+              from-parts g (x.q ^ i) _ _ st.others e.0 a st.is e.1
+              (rw (cond-false _ (falling (x.q ^ x.h)) (units x.q 0 x.h ++ take x.w c)
               (ne_eqb x.w 0 ne)) at (first-comes i low))),
         )
       ]
@@ -322,24 +325,24 @@ module _ (x : Strata) (f : IsField x.q) (c s change : List ℕ) (h : has_earlier
   come : (i : ℕ) → x.h ≤ i → i < x.m → IsMember (x.q ^ i) (nums x f room move turns ys)
   come i low high = subst (IsMember (x.q ^ i)) (sym (nums-are b))
       (let e = behind-more x.w c s in
-      from-parts g (x.q ^ i) (units x.q x.h (x.m - x.h)) (drop x.w c) D.laid.second.others e.0 b D.laid.second.is e.1
+      from-parts g _ _ _ D.laid.second.others e.0 b D.laid.second.is e.1
       (second-comes i low high))
 
   together : xs ++ ys ≡ vectors_of x.q x.m all
-  together = cc (map-append (λ r. digits x.q x.m r) a b, take-append-drop x.w all)
+  together = cc (map-append (digits x.q x.m) a b, take-append-drop x.w all)
 
   free : IsFree x.q x.m f (xs ++ ys)
   unfolding words_in
   free = subst (IsFree x.q x.m f) (sym together) (record { one = D.none_of_one; two = D.none_of_two })
 
   lx : length xs ≡ x.w
-  lx = (let e = length-map a (λ r. digits x.q x.m r) in let e' = length-take x.w all in let e2 = D.laid.len in
-      omega arith)
+  lx = (let e2 = D.laid.len in
+      omega (arith, length-map a (digits x.q x.m), length-take x.w all))
 
   ly : length ys ≡ x.n
   ly =
-      let e = length-map b (λ r. digits x.q x.m r) in
-      let e1 = length-map a (λ r. digits x.q x.m r) in
+      let e = length-map b (digits x.q x.m) in
+      let e1 = length-map a (digits x.q x.m) in
       let e2 = D.laid.len in
       let e3 : length a + length b ≡ length all = cc (length-append a b, take-append-drop x.w all) in
       let e4 = lx in
@@ -357,20 +360,20 @@ module _ (x : Strata) (f : IsField x.q) (c s change : List ℕ) (h : has_earlier
   earlier : IsEarlier x other all
   earlier = record {
     design = subst (IsDesign x) is
-        (in-order-design x f room move turns (base x) kept xs ys lx ly (rows-vectors x.q x.m f a)
+        (in-order-design x f room move turns _ kept xs ys lx ly (rows-vectors x.q x.m f a)
         (rows-vectors x.q x.m f b) free inside outside come);
-    earlier = stands_before c s (image x change c) other h2.1 (under x f change c s);
+    earlier = stands_before c s _ other h2.1 (under x f change c s);
     words = λ confounded k.
         cc (
           is,
-          words-kept x f room move turns (base x) kept xs ys lx ly (rows-vectors x.q x.m f a)
+          words-kept x f room move turns _ kept xs ys lx ly (rows-vectors x.q x.m f a)
               (rows-vectors x.q x.m f b) free inside outside come confounded k,
           together,
         );
     unclear =
         cc (
           is,
-          unclear-kept x f room move turns (base x) kept xs ys lx ly (rows-vectors x.q x.m f a)
+          unclear-kept x f room move turns _ kept xs ys lx ly (rows-vectors x.q x.m f a)
               (rows-vectors x.q x.m f b) free inside outside come,
           together,
         );

@@ -1,6 +1,6 @@
 -- What a change makes of a row, entry by entry.
 use Rattle.std.proofs.Common.{ℕ, ◌≡◌, ◌<◌, ◌+◌, zero, suc, cond, eqb, List, [], ◌∷◌, length, slice_index}
-use Rattle.std.proofs.Common.{slice_set, refl, sym, ◌∙◌, ap₂, arith, inl, inr, ne_eqb}
+use Rattle.std.proofs.Common.{slice_set, refl, sym, ◌∙◌, arith, inl, inr, ne_eqb}
 use Rattle.std.proofs.lemmas.Bool.{cases_eq}
 use Rattle.std.proofs.lemmas.List.{length-map, get_or-map, get_or-set_other}
 use Rattle.std.proofs.lemmas.Grind.{get_or-set_at}
@@ -20,7 +20,7 @@ same-lists [] (y ∷ ys) e h = absurd (omega arith)
 same-lists (x ∷ xs) [] e h = absurd (omega arith)
 same-lists (x ∷ xs) (y ∷ ys) e h =
     let first = h 0 (omega arith) in
-    ap₂ (λ a b. a ∷ b) first (same-lists xs ys (omega arith) (λ j low. h (suc j) (omega arith)))
+    cc (same-lists xs ys (omega arith) (λ j low. h (suc j) (omega arith)))
 
 -- the first i entries of an image
 pub record IsImageTo (q m : ℕ) (change v image : List ℕ) (i : ℕ) : Type 0 where
@@ -33,8 +33,8 @@ module _ (q m : ℕ) (f : IsField q) (change v : List ℕ) (count : length chang
   entry i low =
       cc (
         get_or-map (λ r. dot q r v) (vectors_of q m change) i [] 0
-            (let e = length-map change (λ r. digits q m r) in omega arith),
-        get_or-map (λ r. digits q m r) change i 0 [] (omega arith),
+            (omega (arith, length-map change (digits q m))),
+        get_or-map (digits q m) change i 0 [] (omega arith),
       )
 
   pub image-more : (image : List ℕ) (i c : ℕ) → i < m → IsImageTo q m change v image i
@@ -51,8 +51,8 @@ module _ (q m : ℕ) (f : IsField q) (change v : List ℕ) (count : length chang
   pub image-whole : (image : List ℕ) (i : ℕ) → i ≡ m → IsImageTo q m change v image i
       → image ≡ levels_at q (vectors_of q m change) v
   image-whole image i all h =
-      same-lists image (levels_at q (vectors_of q m change) v)
-      (cc (h.vector.len, length-map (vectors_of q m change) (λ r. dot q r v), length-map change (λ r. digits q m r)))
+      same-lists image _
+      (cc (h.vector.len, length-map (vectors_of q m change) (λ r. dot q r v), length-map change (digits q m)))
       (λ j low. h.are j (let e = h.vector.len in omega arith))
 
 -- the number of the zero vector, and that of another
@@ -61,13 +61,12 @@ pub moved-zero : (d : Dimensions) (f : IsField d.q) (change : List ℕ) (row : �
     → IsVector d.q d.m (levels_at d.q (vectors_of d.q d.m change) (digits d.q d.m row)) → 0 ≡ moved d change row
 moved-zero d f change row none vector =
     let v = levels_at d.q (vectors_of d.q d.m change) (digits d.q d.m row) in
-    let c = cond (eqb (last_nonzero v) 0) 1 (inv d.q (last_nonzero v)) in
     let e = zeros_from_weight v d.m vector.len none in
-    sym (cc (scaled-zeros c d.m, number-zeros d.q d.m))
+    sym (cc (scaled-zeros (cond (eqb (last_nonzero v) 0) 1 (inv d.q (last_nonzero v))) d.m, number-zeros d.q d.m))
   where
     scaled-zeros : (c n : ℕ) → scale d.q c (zeros n) ≡ zeros n
     scaled-zeros c zero = refl
-    scaled-zeros c (suc n) = rw (f.mul_zero c, scaled-zeros c n) refl
+    scaled-zeros c (suc n) = rw (f.mul_zero c, scaled-zeros c n)
 
 pub moved-some : (d : Dimensions) (f : IsField d.q) (change : List ℕ) (row : ℕ)
     → 0 < weight (levels_at d.q (vectors_of d.q d.m change) (digits d.q d.m row))
@@ -77,5 +76,4 @@ pub moved-some : (d : Dimensions) (f : IsField d.q) (change : List ℕ) (row : �
 moved-some d f change row some =
     let v = levels_at d.q (vectors_of d.q d.m change) (digits d.q d.m row) in
     let positive = last_nonzero-positive v some in
-    let ne = ne_eqb (last_nonzero v) 0 (λ e. omega arith) in
-    cc
+    cc (ne_eqb (last_nonzero v) 0 (λ e. omega arith))

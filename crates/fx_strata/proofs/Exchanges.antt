@@ -1,6 +1,6 @@
 -- A change of the run indexes that takes some rows to the unit vectors is invertible, in the words of numbers.
 use Rattle.std.proofs.Common.{ℕ, ◌≡◌, ◌<◌, ◌≤◌, ◌+◌, ◌^◌, zero, suc, Bool, true, eqb, List, [], ◌∷◌}
-use Rattle.std.proofs.Common.{◌++◌, map, length, refl, sym, subst, ◌∙◌, ap, ap₂, arith, inl, inr}
+use Rattle.std.proofs.Common.{◌++◌, map, length, refl, sym, subst, ◌∙◌, ap, arith, inl, inr}
 use Rattle.std.proofs.Common.{eqb-true, eq-eqb}
 use Rattle.std.specs.List.{AllByRecursion, list_all, list_any, range_with_len}
 use Rattle.std.proofs.lemmas.Bool.{cases_eq, or_cases, or_left, or_right, and_parts}
@@ -50,8 +50,8 @@ any_range p a (suc n) i low high h =
 -- one of the numbers from a on passes
 pub found_range : (p : ℕ → Bool) (a n : ℕ) → list_any p (range_with_len a n) ≡ true
     → (i : ℕ) × (a ≤ i) × (i < a + n) × (p i ≡ true)
-found_range p a zero h = absurd (cc h)
-found_range p a (suc n) h = elim (or_cases (p a) (list_any p (range_with_len (a + 1) n)) h) [
+found_range p a zero h = cc h
+found_range p a (suc n) h = elim (or_cases _ _ h) [
   | inl t ↦ (a, omega arith, omega arith, t)
   | inr t ↦ (let r = found_range p (a + 1) n t in (r.0, omega arith, omega arith, r.3))
 ]
@@ -75,9 +75,9 @@ member-left x (y ∷ xs) ys (inl e) = inl e
 member-left x (y ∷ xs) ys (inr h) = inr (member-left x xs ys h)
 
 pub any_member : (g : ℕ → ℕ) (x : ℕ) (rows : List ℕ) → list_any (λ r. eqb (g r) x) rows ≡ true → IsMember x (map g rows)
-any_member g x [] h = absurd (cc h)
-any_member g x (r ∷ rows) h = elim (or_cases (eqb (g r) x) (list_any (λ r. eqb (g r) x) rows) h) [
-  | inl e ↦ inl (eqb-true (g r) x e)
+any_member g x [] h = cc h
+any_member g x (r ∷ rows) h = elim (or_cases _ _ h) [
+  | inl e ↦ inl (eqb-true _ x e)
   | inr k ↦ inr (any_member g x rows k)
 ]
 
@@ -103,19 +103,19 @@ module _ (d : Dimensions) (f : IsField d.q) where
   apart : (i j : ℕ) → i < j → j < d.m → d.q ^ i ≡ d.q ^ j → ⊥
   apart i j less low e =
       let same : unit d.m i ≡ unit d.m j = cc (digits-unit d.q d.m i f (omega arith), digits-unit d.q d.m j f low) in
-      unit-long d.m j low (subst (IsShort j) same (short-le (suc i) j (unit d.m i) (omega arith) (unit_short d.m i)))
+      unit-long d.m j low (subst (IsShort j) same (short-le (suc i) j _ (omega arith) (unit_short d.m i)))
 
   pub units-differ : (k j : ℕ) → k + j ≤ d.m → Differ (map (λ i. d.q ^ i) (range_with_len k j))
   units-differ k zero h = tt
   units-differ k (suc j) h = (
-    each-map (λ y. d.q ^ k ≡ y → ⊥) (λ i. d.q ^ i) (range_with_len (k + 1) j)
+    each-map _ _ _
         (each-range (λ i. d.q ^ k ≡ d.q ^ i → ⊥) (k + 1) j (λ i low high. apart k i (omega arith) (omega arith))),
     units-differ (k + 1) j (omega arith),
   )
 
   pub is-unit : (i : ℕ) → i < d.m → is_unit d (d.q ^ i) ≡ true
   is-unit i h = any_range (λ j. eqb (d.q ^ i) (d.q ^ j)) 0 d.m i (omega arith) (omega arith)
-      (eq-eqb (d.q ^ i) (d.q ^ i) refl)
+      (eq-eqb _ _ refl)
 
   pub falls-weakly : (ys : List ℕ) → AllByRecursion (λ r. r < d.q ^ d.m) ys → Falls ys
       → FallsWeakly d.q (vectors_of d.q d.m ys)
@@ -133,7 +133,7 @@ module _ (d : Dimensions) (f : IsField d.q) where
     by v = levels_at d.q (vectors_of d.q d.m change) v
 
     pub many : length (vectors_of d.q d.m change) ≡ d.m
-    many = length-map change (λ r. digits d.q d.m r) ∙ count
+    many = cc (length-map change (digits d.q d.m))
 
     -- vectors that the change takes to the unit vectors
     pub preimage : (i : ℕ) (rows : List ℕ) → i < d.m → IsMember (d.q ^ i) (map (moved d change) rows)
@@ -142,15 +142,12 @@ module _ (d : Dimensions) (f : IsField d.q) where
     preimage i (r ∷ rows) low (inr h) = preimage i rows low h
     preimage i (r ∷ rows) low (inl e) =
         let v = digits d.q d.m r in
-        let hv = digits-vector d.q d.m r some in
         let c = normal_factor d.q d.m f (by v) in
-        let w = scale d.q c v in
-        let is = levels-scale d.q f (vectors_of d.q d.m change) c v in
         let hb =
-        scale-vector d.q d.m f c (by v) (by-vector d.q d.m f (vectors_of d.q d.m change) many v) in (
-          w,
-          scale-vector d.q d.m f c v hv,
-          is ∙ number-same d.q d.m f (scale d.q c (by v)) (unit d.m i) hb (unit-vector d.q d.m i f)
+        scale-vector d.q d.m f c _ (by-vector d.q d.m f _ many v) in (
+          scale d.q c v,
+          scale-vector d.q d.m f c v (digits-vector d.q d.m r some),
+          (levels-scale d.q f (vectors_of d.q d.m change) c v) ∙ number-same d.q d.m f _ _ hb (unit-vector d.q d.m i f)
               (e ∙ sym (number-unit d.q d.m i low)),
         )
 
@@ -160,12 +157,12 @@ module _ (d : Dimensions) (f : IsField d.q) where
     preimages rows h k (suc j) room =
         let one = preimage k rows (omega arith) (h k (omega arith)) in
         let more = preimages rows h (suc k) j (omega arith) in
-        (one.0 ∷ more.0, (one.1, more.1), ap₂ (λ x xs. x ∷ xs) one.2 more.2)
+        (one.0 ∷ more.0, (one.1, more.1), cc)
 
     pub invertible : (rows : List ℕ) → IsExchange d change rows → IsChange d.q d.m by
     invertible rows h =
         let ws = preimages rows h 0 d.m (omega arith) in
-        is-change d.q d.m f (vectors_of d.q d.m change) many ws.0 ws.1 ws.2
+        is-change d.q d.m f _ many ws.0 ws.1 ws.2
 
     -- the normal multiples of what the change makes of rows
     abbrev pub changed : List ℕ → List (List ℕ)

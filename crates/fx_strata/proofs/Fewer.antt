@@ -1,5 +1,5 @@
 -- Designs without their last factors.
-use Rattle.std.proofs.Common.{ℕ, ◌≡◌, ◌≤◌, ◌+◌, Bool, true, false, eqb, if◌then◌else◌, List, ◌++◌, length}
+use Rattle.std.proofs.Common.{ℕ, ◌≡◌, ◌≤◌, ◌+◌, Bool, true, false, if◌then◌else◌, List, ◌++◌, length}
 use Rattle.std.proofs.Common.{take, drop, arith}
 use Rattle.std.specs.Prelude.{All}
 use Rattle.std.proofs.lemmas.List.{take-take, length-take-le}
@@ -22,15 +22,13 @@ words-longer : (q m : ℕ) (f : IsField q) (test : List ℕ → Bool) (k : ℕ) 
 unfolding words_in
 words-longer q m f test k xs ys hx hy =
     let g = counted q m f test k in
-    let more = total-more q m f g ys xs hy hx in
-    let last = total-turned q m f g ys xs in
-    omega arith
+    omega (arith, total-more q m f g ys xs hy hx, total-turned q m f g ys xs)
 
 words-of-some : (q m : ℕ) (f : IsField q) (test : List ℕ → Bool) (k n : ℕ) (rows : List (List ℕ))
     → All (λ r. IsVector q m r) rows
     → words_in q m test (take n rows) k ≤ words_in q m test rows k
 words-of-some q m f test k n rows h =
-    rw (take-append-drop n rows) at (words-longer q m f test k (take n rows) (drop n rows)
+    rw (take-append-drop n rows) at (words-longer q m f test k _ _
     (recursion_from_All (IsVector q m) (take n rows) (All-take (IsVector q m) n rows h))
     (recursion_from_All (IsVector q m) (drop n rows) (All-drop (IsVector q m) n rows h)))
 
@@ -52,10 +50,10 @@ module _ (x : Strata) (f : IsField x.q) (n : ℕ) (blocks factors : List (List �
   count = length-take-le (x.w + n) factors (omega arith)
 
   rows : All (λ r. IsVector x.q x.m r) few
-  rows = All-take (IsVector x.q x.m) (x.w + n) factors S.factor_rows
+  rows = All-take (IsVector x.q x.m) _ factors S.factor_rows
 
   based : All (λ r. IsVector x.q x.m r) (base_of x blocks factors)
-  based = base-rows (eqb x.w 0)
+  based = base-rows _
     where
       base-rows : (b : Bool) → All (λ r. IsVector x.q x.m r) (if b then blocks else take x.w factors)
       base-rows true = S.block_rows
@@ -65,7 +63,7 @@ module _ (x : Strata) (f : IsField x.q) (n : ℕ) (blocks factors : List (List �
   base = base_of x blocks factors
 
   fewer-sums : (b : Bool) (k : ℕ) → sums_of y base few b k ≤ sums_of x base factors b k
-  fewer-sums false k = words-of-some x.q x.m f is_zero k (x.w + n) factors S.factor_rows
+  fewer-sums false k = words-of-some x.q x.m f is_zero k _ factors S.factor_rows
   fewer-sums true k =
       let more = words-of-some x.q x.m f (is_in_base x base) k (x.w + n) factors S.factor_rows in
       let same : words_in x.q x.m (is_in_base x base) (take x.w few) k
@@ -76,10 +74,10 @@ module _ (x : Strata) (f : IsField x.q) (n : ℕ) (blocks factors : List (List �
   fewer-words : (b : Bool) (k : ℕ) → words_of x base factors b k ≡ 0 → words_of y (base_of y blocks few) few b k ≡ 0
   fewer-words b k none =
       let less = fewer-sums b k in
-      let whole = words-are-sums x f base factors (recursion_from_All (IsVector x.q x.m) base based)
-      (recursion_from_All (IsVector x.q x.m) factors S.factor_rows) (omega arith) b k in
-      let part = words-are-sums y f base few (recursion_from_All (IsVector x.q x.m) base based)
-      (recursion_from_All (IsVector x.q x.m) few rows)
+      let whole = words-are-sums x f base factors (recursion_from_All _ base based)
+      (recursion_from_All _ factors S.factor_rows) (omega arith) b k in
+      let part = words-are-sums y f base few (recursion_from_All _ base based)
+      (recursion_from_All _ few rows)
       (omega (arith, count)) b k in
       let zero : words_of y base few b k ≡ 0 = omega arith in
       cc same-base

@@ -1,7 +1,7 @@
 -- Where inside factors are missing, the rows of all outside factors are live.
-use Rattle.std.proofs.Common.{ℕ, ◌≡◌, ◌<◌, ◌≤◌, ◌+◌, ◌-◌, ◌^◌, Bool, true, not, cond, eqb, ◌&&◌, List, [], ◌∷◌}
-use Rattle.std.proofs.Common.{◌++◌, length, take, drop, refl, subst, ◌∙◌, ap, arith, inl, inr, eq-eqb}
-use Rattle.std.proofs.Common.{take-append-drop, length-append, ap₂}
+use Rattle.std.proofs.Common.{ℕ, ◌≡◌, ◌<◌, ◌≤◌, ◌+◌, ◌-◌, ◌^◌, Bool, true, not, cond, List, [], ◌∷◌}
+use Rattle.std.proofs.Common.{◌++◌, length, take, drop, refl, subst, ap, arith, inl, inr, eq-eqb}
+use Rattle.std.proofs.Common.{take-append-drop, length-append}
 use Rattle.std.specs.List.{AllByRecursion, sum_by}
 use Rattle.std.proofs.lemmas.Bool.{and_from, ne_eqb, cond-true, false_from_ne_true, lt-ltb, ltb-true}
 use Rattle.std.proofs.lemmas.List.{length-take}
@@ -36,7 +36,7 @@ use Rattle.fx_laws.proofs.Ranks.{short-combination}
 
 sum-back : (g : ℕ → ℕ) (ms ys : List ℕ) → sum_by g ys ≤ sum_by g (ms ++ ys)
 sum-back g [] ys = omega arith
-sum-back g (m ∷ ms) ys = (let e = sum_by-cons g m (ms ++ ys) in let l = sum-back g ms ys in omega arith)
+sum-back g (m ∷ ms) ys = (omega (arith, sum_by-cons g m (ms ++ ys), sum-back g ms ys))
 
 sum-ones : (p : ℕ → Bool) (xs : List ℕ) → AllByRecursion (λ r. p r ≡ true) xs
     → sum_by (λ r. cond {A = ℕ} (p r) 1 0) xs ≡ length xs
@@ -62,32 +62,34 @@ module _ (x : Strata) (f : IsField x.q) (c s : List ℕ) (D : IsDesign x (c ++ s
 
   halves : (ms : List ℕ) × (take x.w all ≡ c ++ ms) × (s ≡ ms ++ drop x.w all)
   halves =
-      let e = length-take x.w all in
       let e' = D.laid.len in
-      split (take x.w all) (drop x.w all) c s (take-append-drop x.w all) (omega arith)
+      split _ _ c s (take-append-drop x.w all) (omega (arith, length-take x.w all))
 
   inside : AllByRecursion (λ v. IsShort x.h v) (vectors_of x.q x.m c)
   inside = elim (D.laid.first) [
     | inl e ↦ absurd (omega arith)
     | inr st ↦ shorts x f room c (each-append_parts (λ r. InRange d f 0 x.h r) c halves.0
-        (subst (AllByRecursion (λ r. InRange d f 0 x.h r)) halves.1 (stage-range d f 0 x.h (take x.w all) st))).0
+        (subst (AllByRecursion (λ r. InRange d f 0 x.h r)) halves.1 (stage-range d f 0 x.h _ st))).0
   ]
 
   none-at : (k n : ℕ) → x.q ^ x.h ≤ n → spread x.q x.m (vectors_of x.q x.m c) k n ≡ 0
   none-at k n high =
       let C = vectors_of x.q x.m c in
       let ps = points x.q (length C) in
-      spread-total x.q x.m f C k n
-      ∙ sum_by-each (λ u. hit x.q x.m f k n (weight u) (combination x.q x.m u C)) (λ u. 0) ps
-      (recursion_from_All _ ps (all-points x.q (length C) some
-      (λ u. hit x.q x.m f k n (weight u) (combination x.q x.m u C) ≡ 0)
-      (λ u hu.
-      let v = combination x.q x.m u C in
-      let hv = combination-vector x.q x.m f u C (rows-vectors x.q x.m f c) in
-      let below =
-      short-number x.q x.m x.h f v hv (short-combination x.q x.m x.h f u C inside) in
-      cc (ne_eqb (number x.q v) n (λ e. omega arith)))))
-      ∙ sum_by-zero ps
+      cc (
+        spread-total x.q x.m f C k n,
+        sum_by-each (λ u. hit x.q x.m f k n (weight u) (combination x.q x.m u C))
+            (λ u. 0) ps
+            (recursion_from_All _ ps (all-points x.q (length C) some
+            (λ u. hit x.q x.m f k n (weight u) (combination x.q x.m u C) ≡ 0)
+            (λ u hu.
+            let v = combination x.q x.m u C in
+            let below =
+            short-number x.q x.m x.h f v (combination-vector x.q x.m f u C (rows-vectors x.q x.m f c))
+            (short-combination x.q x.m x.h f u C inside) in
+            cc (ne_eqb (number x.q v) n (λ e. omega arith))))),
+        sum_by-zero ps,
+      )
 
   is-live-row : (r : ℕ) → x.q ^ x.h ≤ r → r < x.q ^ x.m → is_live x c (digits x.q x.m r) ≡ true
   is-live-row r high top =
@@ -95,20 +97,16 @@ module _ (x : Strata) (f : IsField x.q) (c s : List ℕ) (D : IsDesign x (c ++ s
       let hv = digits-vector x.q x.m r some in
       let here = number-digits x.q x.m r some top in
       let up : x.q ^ x.h ≤ number x.q v = omega arith in
-      let out =
-      false_from_ne_true (in_span x.q x.m (base x) v)
-      (λ t. let short = short-number x.q x.m x.h f v hv (in-base x f room v hv t) in omega arith) in
-      let two = none-at 2 (number x.q v) up in
-      let few : spread x.q x.m (vectors_of x.q x.m c) 2 (number x.q v) < 2 = omega arith in
-      and_from _ _ (ap not out)
-      (and_from _ _ (eq-eqb _ _ (none-at 1 (number x.q v) up)) (lt-ltb _ _ few))
+      and_from _ _ (ap not (false_from_ne_true (in_span x.q x.m (base x) v)
+      (λ t. omega (arith, short-number x.q x.m x.h f v hv (in-base x f room v hv t)))))
+      (and_from _ _ (eq-eqb _ _ (none-at 1 _ up)) (lt-ltb _ _ (omega (arith, none-at 2 _ up))))
 
   lives : (rs : List ℕ) → AllByRecursion (λ r. InRange d f x.h (x.m - x.h) r) rs
       → AllByRecursion (λ r. is_live x c (digits x.q x.m r) ≡ true) rs
   lives [] h = tt
   lives (r ∷ rs) h =
-      let top : r < x.q ^ x.m =
-      subst (λ n. r < x.q ^ n) (let e : x.h + (x.m - x.h) ≡ x.m = omega (arith, room) in e) h.0.high in
+      let top =
+      rw (let e : x.h + (x.m - x.h) ≡ x.m = omega (arith, room) in e) at h.0.high in
       (is-live-row r h.0.low top, lives rs h.1)
 
   pub others-live : x.n ≤ sum_by (λ r. cond {A = ℕ} (is_live x c (digits x.q x.m r)) 1 0) s
@@ -116,15 +114,14 @@ module _ (x : Strata) (f : IsField x.q) (c s : List ℕ) (D : IsDesign x (c ++ s
       let g : ℕ → ℕ = λ r. cond {A = ℕ} (is_live x c (digits x.q x.m r)) 1 0 in
       let back = drop x.w all in
       let ones =
-      sum-ones (λ r. is_live x c (digits x.q x.m r)) back
-      (lives back (stage-range d f x.h (x.m - x.h) back D.laid.second)) in
+      sum-ones _ back
+      (lives back (stage-range d f x.h _ back D.laid.second)) in
       let e : length (take x.w all) + length back ≡ length all =
       cc (length-append (take x.w all) back, take-append-drop x.w all) in
-      let e1 = length-take x.w all in
       let e2 = D.laid.len in
-      let more : sum_by g back ≤ sum_by g s =
+      let more =
       rw (← halves.2) at (sum-back g halves.0 back) in
-      omega arith
+      omega (arith, length-take x.w all)
 
 -- what is live is told from numbers
 pub live_by_tallies : (x : Strata) (f : IsField x.q) → LiveByTallies x
@@ -135,9 +132,8 @@ live_by_tallies x f rows r room top =
     let here = number-digits x.q x.m r some top in
     let inside =
     bool_same (in_span x.q x.m (base x) v) (nat_lt r (x.q ^ x.h))
-    (λ t. lt-ltb r (x.q ^ x.h)
+    (λ t. lt-ltb r _
     (rw here at (short-number x.q x.m x.h f v hv (in-base x f room v hv t))))
     (λ t. base-in x f room v hv
-    (number-short x.q x.m x.h f v hv (rw here (ltb-true r (x.q ^ x.h) t)))) in
-    ap₂ (λ i (n : ℕ). not i && (eqb (spread x.q x.m (vectors_of x.q x.m rows) 1 n) 0
-    && nat_lt (spread x.q x.m (vectors_of x.q x.m rows) 2 n) 2)) inside here
+    (number-short x.q x.m x.h f v hv (rw here (ltb-true r _ t)))) in
+    cc

@@ -1,6 +1,6 @@
 -- No design below a prefix is worth less than its floor.
 use Rattle.std.proofs.Common.{ℕ, ◌≡◌, ◌<◌, ◌≤◌, ◌+◌, ◌-◌, ◌*◌, zero, suc, Bool, true, false, not, cond, eqb, ◌&&◌}
-use Rattle.std.proofs.Common.{eqb-true, List, [], ◌∷◌, ◌++◌, map, length, take, refl, sym, subst, ◌∙◌, ap, ap₂, arith}
+use Rattle.std.proofs.Common.{eqb-true, List, [], ◌∷◌, ◌++◌, map, length, take, refl, sym, ◌∙◌, ap, ap₂, arith}
 use Rattle.std.proofs.Common.{inl, inr, Some, min, append_assoc, length-append, le_trans, drop, take-append-drop}
 use Rattle.std.proofs.Common.{append-nil}
 use Rattle.std.proofs.lemmas.Bool.{both_ways, false_from_ne_true, and_from, ltb-true, cases_Bool, cases_eq, cases_lt}
@@ -25,14 +25,14 @@ use Rattle.fx_strata.specs.Words.{words_in}
 use Rattle.fx_strata.specs.Sums.{is_in_base}
 use Rattle.fx_strata.specs.Canonical.{dimensions_of, base, words, unclear, figures, is_later, AreLater, IsLaid}
 use Rattle.fx_strata.specs.Canonical.{IsDesign}
-use Rattle.fx_strata.specs.Clear.{is_live, live_sums, pairs}
+use Rattle.fx_strata.specs.Clear.{is_live, pairs}
 use Rattle.fx_strata.specs.Stages.{stage_after, has_units, bound, later_rows, missing}
-use Rattle.fx_strata.specs.Floors.{least_sum, new_words, is_spare, taking, unclear_floor, needs_none, floor_at, floor}
+use Rattle.fx_strata.specs.Floors.{least_sum, new_words, is_spare, taking, unclear_floor, needs_none, floor_at}
 use Rattle.fx_strata.specs.Floors.{does_not_beat, cannot_beat}
 use Rattle.fx_strata.specs.Laws.{NoneWithoutRoom, NoneBelow}
 use Rattle.fx_strata.proofs.Totals.{total, total-turned, total-more, added, counted}
 use Rattle.fx_strata.proofs.Free.{IsFree, each-none}
-use Rattle.fx_strata.proofs.Rests.{Rest, fits}
+use Rattle.fx_strata.proofs.Rests.{fits}
 use Rattle.fx_strata.proofs.Follows.{rest, no_room}
 use Rattle.fx_strata.proofs.Clearer.{unclear-more}
 use Rattle.fx_strata.proofs.Live.{not-clear}
@@ -41,9 +41,9 @@ use Rattle.fx_strata.proofs.First.{others-live}
 -- one of the numbers, and the least sum of the others
 pub least-with : (k x : ℕ) (xs : List ℕ) → least_sum (suc k) (x ∷ xs) ≤ x + least_sum k xs
 least-with k x xs = elim (cases_Bool (nat_le (length xs) k)) [
-  | inl t ↦ rw (cond-true (nat_le (length xs) k) (x + least_sum k xs) (min (x + least_sum k xs) (least_sum (suc k) xs))
+  | inl t ↦ rw (cond-true _ (x + least_sum k xs) (min (x + least_sum k xs) (least_sum (suc k) xs))
       t) (omega arith)
-  | inr o ↦ rw (cond-false (nat_le (length xs) k) (x + least_sum k xs) (min (x + least_sum k xs) (least_sum (suc k) xs))
+  | inr o ↦ rw (cond-false _ (x + least_sum k xs) (min (x + least_sum k xs) (least_sum (suc k) xs))
       o) (omega arith)
 ]
 
@@ -51,7 +51,7 @@ least-with k x xs = elim (cases_Bool (nat_le (length xs) k)) [
 pub least-without : (k x : ℕ) (xs : List ℕ) → suc k ≤ length xs → least_sum (suc k) (x ∷ xs) ≤ least_sum (suc k) xs
 least-without k x xs h = elim (cases_Bool (nat_le (length xs) k)) [
   | inl t ↦ absurd (let low : length xs ≤ k = grind (arith, nat_tests, t) in omega arith)
-  | inr o ↦ rw (cond-false (nat_le (length xs) k) (x + least_sum k xs) (min (x + least_sum k xs) (least_sum (suc k) xs))
+  | inr o ↦ rw (cond-false _ (x + least_sum k xs) (min (x + least_sum k xs) (least_sum (suc k) xs))
       o) (omega arith)
 ]
 
@@ -71,7 +71,7 @@ come-sum d from g (suc n) (x ∷ xs) h =
           come-sum d from g n xs (rw e at h.2) in
           let with =
           least-with k (g n) (map g rest) in
-          let same : g x ≡ g n = ap g e in
+          let same = ap g e in
           rw (cond-true (is_later d from n) (n ∷ rest) rest on) (omega arith)
       | inr ne ↦
           let low : x < n = (let e = h.1 in omega arith) in
@@ -118,7 +118,7 @@ covered : (p r : ℕ → Bool) (xs : List ℕ) → AllByRecursion (λ x. p x ≡
 covered p r [] h = omega arith
 covered p r (x ∷ xs) h =
     let e = sum_by-cons (λ x. cond {A = ℕ} (p x) 1 0) x xs in
-    let e' : count_by r (x ∷ xs) ≡ cond (r x) 1 0 + count_by r xs = sum_by-cons (λ x. cond {A = ℕ} (r x) 1 0) x xs in
+    let e' = sum_by-cons (λ x. cond {A = ℕ} (r x) 1 0) x xs in
     let more = covered p r xs h.1 in
     elim (cases_Bool (p x)) [
       | inl t ↦ let one : cond {A = ℕ} (p x) 1 0 ≡ 1 = cond-true (p x) 1 0 t in omega arith
@@ -128,9 +128,9 @@ covered p r (x ∷ xs) h =
 -- where a less key has no constant words of three factors
 no-threes : (order : Order) (key : List ℕ) (a : Figures) → needs_none order key ≡ true
     → is_less (key_of order a) key ≡ true → a.words false 3 ≡ 0
-no-threes [] key a h less = absurd (cc h)
-no-threes (Unclear ∷ order) key a h less = absurd (cc h)
-no-threes (Words kind k ∷ order) [] a h less = absurd (cc h)
+no-threes [] key a h less = cc h
+no-threes (Unclear ∷ order) key a h less = cc h
+no-threes (Words kind k ∷ order) [] a h less = cc h
 no-threes (Words kind k ∷ order) (count ∷ key) a h less =
     let p = and_parts (not kind) (eqb k 3 && eqb count 0) h in
     let p1 = and_parts (eqb k 3) (eqb count 0) p.1 in
@@ -142,12 +142,12 @@ no-threes (Words kind k ∷ order) (count ∷ key) a h less =
       | inl l ↦ absurd (let l' = ltb-true n count l in omega arith)
       | inr l ↦ eqb-true n count (and_parts (eqb n count) (is_less (key_of order a) key) l).0 ∙ none
     ] in
-    sym (ap₂ a.words constant three) ∙ zero_words
+    cc three
 
 -- a list that is nowhere greater is not greater
 pub not_less : {X : Type 0} (g h : X → ℕ) (ts : List X) → ((t : X) → g t ≤ h t) → is_less (map h ts) (map g ts) ≡ false
 not_less g h [] few = refl
-not_less g h (t ∷ ts) few = or_from _ _ (le-ltb (h t) (g t) (few t)) (and_right _ _ (not_less g h ts few))
+not_less g h (t ∷ ts) few = or_from _ _ (le-ltb _ _ (few t)) (and_right _ _ (not_less g h ts few))
 
 module _ (x : Strata) (f : IsField x.q) where
   -- all words of some rows whose sum passes a test
@@ -167,7 +167,7 @@ module _ (x : Strata) (f : IsField x.q) where
     added-row c r =
         cc (
           total-turned x.q x.m f g (digits x.q x.m r ∷ []) (vectors_of x.q x.m c),
-          map-append (λ r. digits x.q x.m r) c (r ∷ []),
+          map-append (digits x.q x.m) c (r ∷ []),
           as-total (c ++ r ∷ []),
         )
 
@@ -179,15 +179,14 @@ module _ (x : Strata) (f : IsField x.q) where
         let more =
         total-more x.q x.m f g vx vc (rows-vectors x.q x.m f xs) (rows-vectors x.q x.m f c) in
         let last : total x.q x.m f g (vx ++ vc) ≡ count test k (c ++ xs) =
-        cc (total-turned x.q x.m f g vx vc, map-append (λ r. digits x.q x.m r) c xs, as-total (c ++ xs)) in
+        cc (total-turned x.q x.m f g vx vc, map-append (digits x.q x.m) c xs, as-total (c ++ xs)) in
         let each : sum_by (added x.q x.m f g vc) vx ≡ sum_by (λ r. count test k (c ++ r ∷ []) - count test k c) xs =
-        sum_by_map (added x.q x.m f g vc) (λ r. digits x.q x.m r) xs
+        sum_by_map (added x.q x.m f g vc) (digits x.q x.m) xs
         ∙ sum_by-ext _ _ xs (λ r. cc (added-row c r, as-total c)) in
-        let first = as-total c in
-        omega arith
+        omega (arith, as-total c)
 
     grows : (c xs : List ℕ) → count test k c ≤ count test k (c ++ xs)
-    grows c xs = (let e = grow c xs in omega arith)
+    grows c xs = (omega (arith, grow c xs))
 
   abbrev T : List ℕ → Bool
   T v = is_in_base x (base x) v
@@ -212,36 +211,29 @@ module _ (x : Strata) (f : IsField x.q) where
   words-grow : (b : Bool) (k : ℕ) (c xs : List ℕ)
       → words x c b k + sum_by (λ r. new_words x c r b k) xs ≤ words x (c ++ xs) b k
   words-grow false k c xs =
-      let e = constant-words k c in
-      let e' = constant-words k (c ++ xs) in
       let each : sum_by (λ r. new_words x c r false k) xs
       ≡ sum_by (λ r. count is_zero k (c ++ r ∷ []) - count is_zero k c) xs =
-      sum_by-ext _ _ xs (λ r. ap₂ (λ (a b : ℕ). a - b) (constant-words k (c ++ r ∷ [])) (constant-words k c)) in
-      let more = grow is_zero k c xs in
-      omega arith
+      sum_by-ext _ _ xs (λ r. ap₂ (λ a b. a - b) (constant-words k (c ++ r ∷ [])) (constant-words k c)) in
+      omega (arith, constant-words k c, constant-words k (c ++ xs), grow is_zero k c xs)
   words-grow true k c xs = elim (cases_lt (length c) x.w) [
     | inl low ↦
         let none = none-yet k c (omega arith) in
-        let each : sum_by (λ r. new_words x c r true k) xs ≡ 0 =
-        sum-none (λ r. new_words x c r true k) xs
-        (λ r. let e = none-yet k (c ++ r ∷ []) (omega (arith, length-append c (r ∷ []))) in omega arith) in
-        omega arith
+        omega (
+          arith,
+          sum-none (λ r. new_words x c r true k) xs
+              (λ r. omega (arith, none-yet k (c ++ r ∷ []) (omega (arith, length-append c (r ∷ []))))),
+        )
     | inr high ↦
         let fixed : (ys : List ℕ) → words x (c ++ ys) true k ≡ count T k (c ++ ys) - count T k (take x.w c) =
-        λ ys. confounded-words k (c ++ ys) ∙ ap (λ l. count T k (c ++ ys) - count T k l) (take-append-le x.w c ys high)
+        λ ys. cc (confounded-words k (c ++ ys), take-append-le x.w c ys high)
         in
         let here = confounded-words k c in
-        let part : count T k (take x.w c) ≤ count T k c =
-        subst (λ l. count T k (take x.w c) ≤ count T k l) (take-append-drop x.w c)
-        (grows T k (take x.w c) (drop x.w c)) in
+        let part =
+        rw (take-append-drop x.w c) at (grows T k (take x.w c) (drop x.w c)) in
         let each : sum_by (λ r. new_words x c r true k) xs ≡ sum_by (λ r. count T k (c ++ r ∷ []) - count T k c) xs =
         sum_by-ext _ _ xs (λ r.
-        let e = fixed (r ∷ []) in
-        let up = grows T k c (r ∷ []) in
-        omega arith) in
-        let more = grow T k c xs in
-        let last = fixed xs in
-        omega arith
+        omega (arith, fixed (r ∷ []), grows T k c (r ∷ []))) in
+        omega (arith, grow T k c xs, fixed xs)
   ]
 
   -- the confounded words that a row makes, after all inside factors
@@ -253,11 +245,9 @@ module _ (x : Strata) (f : IsField x.q) where
   new-confounded k c r high =
       let fixed : words x (c ++ r ∷ []) true k ≡ count T k (c ++ r ∷ []) - count T k (take x.w c) =
       cc (confounded-words k (c ++ r ∷ []), take-append-le x.w c (r ∷ []) high) in
-      let here = confounded-words k c in
-      let part : count T k (take x.w c) ≤ count T k c =
+      let part =
       rw (take-append-drop x.w c) at (grows T k (take x.w c) (drop x.w c)) in
-      let up = grows T k c (r ∷ []) in
-      omega arith
+      omega (arith, confounded-words k c, grows T k c (r ∷ []))
 
   pub inside-grows : (k : ℕ) (c : List ℕ) (r : ℕ)
       → words_in x.q x.m (is_in_base x (base x)) (vectors_of x.q x.m c) k
@@ -266,7 +256,7 @@ module _ (x : Strata) (f : IsField x.q) where
   inside-grows k c r = grows T k c (r ∷ [])
 
   pub words-more : (b : Bool) (k : ℕ) (c s : List ℕ) → words x c b k ≤ words x (c ++ s) b k
-  words-more b k c s = (let e = words-grow b k c s in omega arith)
+  words-more b k c s = (omega (arith, words-grow b k c s))
 
   -- with the new words of each further row
   words-grow-by-rows : (b : Bool) (k : ℕ) (c xs s : List ℕ)
@@ -289,14 +279,13 @@ module _ (x : Strata) (f : IsField x.q) where
     makes-none none three xs behind is = elim (cases_Bool none) [
       | inr o ↦ unasked xs o
       | inl t ↦
-          let all : words x (c ++ (xs ++ behind)) false 3 ≡ 0 =
+          let all =
           rw is at (three t) in
           let more =
           words-more false 3 (c ++ xs) behind in
           let whole : words x ((c ++ xs) ++ behind) false 3 ≡ words x (c ++ (xs ++ behind)) false 3 =
           cc (append_assoc c xs behind) in
-          let grown = words-grow false 3 c xs in
-          asked xs (each-none (λ r. new_words x c r false 3) xs (omega arith))
+          asked xs (each-none (λ r. new_words x c r false 3) xs (omega (arith, words-grow false 3 c xs)))
     ]
       where
         unasked : (ys : List ℕ) → none ≡ false
@@ -324,12 +313,12 @@ module _ (x : Strata) (f : IsField x.q) where
         → unclear_floor x none c ≤ unclear x (c ++ s)
     floor-unclear there none three =
         let old = unclear-more x f c s in
-        let size : pairs x.q (length (c ++ s)) ≡ pairs x.q (x.w + x.n) = ap (pairs x.q) laid.len in
-        let stage : ℕ = missing x c - count_by (is_spare x none c) (later_rows x c) in
+        let size : pairs x.q (length (c ++ s)) ≡ pairs x.q (x.w + x.n) = cc laid.len in
+        let stage = missing x c - count_by (is_spare x none c) (later_rows x c) in
         elim (cases_lt (length c) x.w) [
           | inl low ↦
-              let live : ℕ = sum_by (λ r. cond {A = ℕ} (is_live x c (digits x.q x.m r)) 1 0) s in
-              let part : pairs x.q (length (c ++ s)) + (x.q - 1) * live ≤ unclear x (c ++ s) + live_sums x c =
+              let live = sum_by (λ r. cond {A = ℕ} (is_live x c (digits x.q x.m r)) 1 0) s in
+              let part =
               not-clear x f laid.base c s s [] (sym (append-nil s)) free in
               let is : taking x none c ≡ x.n =
               cond-true (nat_lt (length c) x.w) x.n stage (lt-ltb (length c) x.w low) in
@@ -337,12 +326,12 @@ module _ (x : Strata) (f : IsField x.q) where
               let times : (x.q - 1) * taking x none c ≤ (x.q - 1) * live = mul-le-mul_left (x.q - 1) (omega arith) in
               omega arith
           | inr high ↦
-              let p : Rest x c s = rest x f c s laid there in
-              let live : ℕ = sum_by (λ r. cond {A = ℕ} (is_live x c (digits x.q x.m r)) 1 0) p.rows in
-              let part : pairs x.q (length (c ++ s)) + (x.q - 1) * live ≤ unclear x (c ++ s) + live_sums x c =
+              let p = rest x f c s laid there in
+              let live = sum_by (λ r. cond {A = ℕ} (is_live x c (digits x.q x.m r)) 1 0) p.rows in
+              let part =
               not-clear x f laid.base c s p.rows p.behind p.is free in
-              let each : length p.rows ≤ live + count_by (is_spare x none c) p.rows =
-              covered (λ r. is_live x c (digits x.q x.m r)) (is_spare x none c) p.rows
+              let each =
+              covered _ _ p.rows
               (makes-none none three p.rows p.behind p.is) in
               let few : count_by (is_spare x none c) p.rows ≤ count_by (is_spare x none c) (later_rows x c) =
               come-count (dimensions_of x) (stage_after x c).first_unit (is_spare x none c) (bound x c) p.rows
@@ -351,8 +340,7 @@ module _ (x : Strata) (f : IsField x.q) where
               let is : taking x none c ≡ stage =
               cond-false (nat_lt (length c) x.w) x.n stage (le-ltb (length c) x.w high) in
               let many : taking x none c ≤ live = omega arith in
-              let times : (x.q - 1) * taking x none c ≤ (x.q - 1) * live = mul-le-mul_left (x.q - 1) many in
-              omega arith
+              omega (arith, mul-le-mul_left (x.q - 1) many)
         ]
 
     floor-low : has_units x c ≡ true → (none : Bool) → (none ≡ true → words x (c ++ s) false 3 ≡ 0)
@@ -361,24 +349,22 @@ module _ (x : Strata) (f : IsField x.q) where
     floor-low there none three (Words b k) =
         let p = rest x f c s laid there in
         let g : ℕ → ℕ = λ r. new_words x c r b k in
-        let grown : words x c b k + sum_by g p.rows ≤ words x (c ++ s) b k =
+        let grown =
         rw (← p.is) at (words-grow-by-rows b k c p.rows p.behind) in
-        let least =
-        come-sum (dimensions_of x) (stage_after x c).first_unit g (bound x c) p.rows p.later in
-        let least' : least_sum (missing x c) (map g (later_rows x c)) ≤ sum_by g p.rows =
-        rw p.len at least in
+        let least' =
+        rw p.len at (come-sum (dimensions_of x) (stage_after x c).first_unit g (bound x c) p.rows p.later) in
         omega arith
 
     floored : (order : Order) (key : List ℕ) → cannot_beat x order (Some key) c ≡ true
         → is_less (key_of order (figures x (c ++ s))) key ≡ false
     floored order key h = false_from_ne_true _ (λ less.
         let none = needs_none order key in
-        let p = and_parts (has_units x c) (not (is_less (floor x order none c) key)) h in
-        both_ways (is_less (key_of order (figures x (c ++ s))) key)
-        (not_above (key_of order (figures x (c ++ s))) (floor x order none c) key
+        let p = and_parts _ _ h in
+        both_ways _
+        (not_above _ _ key
         (length-map order (part_of (figures x (c ++ s))) ∙ sym (length-map order (floor_at x none c)))
         (not_less (floor_at x none c) (part_of (figures x (c ++ s))) order
-        (floor-low p.0 none (λ e. no-threes order key (figures x (c ++ s)) e less))) (not-true _ p.1)) less)
+        (floor-low p.0 none (λ e. no-threes order key _ e less))) (not-true _ p.1)) less)
 
   part-grows : (c s : List ℕ) (part : Part) → part_of (figures x c) part ≤ part_of (figures x (c ++ s)) part
   part-grows c s (Words b k) = words-more b k c s
@@ -388,13 +374,13 @@ module _ (x : Strata) (f : IsField x.q) where
   worse : (order : Order) (c s key : List ℕ) → does_not_beat x order (Some key) c ≡ true
       → is_less (key_of order (figures x (c ++ s))) key ≡ false
   worse order c s key h =
-      not_above (key_of order (figures x (c ++ s))) (key_of order (figures x c)) key
+      not_above _ _ key
       (length-map order (part_of (figures x (c ++ s))) ∙ sym (length-map order (part_of (figures x c))))
       (not_less (part_of (figures x c)) (part_of (figures x (c ++ s))) order (part-grows c s)) (not-true _ h)
 
   pub none_below : (order : Order) → NoneBelow x order
   none_below order c s key h D =
-      elim (or_cases (does_not_beat x order (Some key) c) (cannot_beat x order (Some key) c) h) [
+      elim (or_cases _ _ h) [
         | inl w ↦ worse order c s key w
         | inr w ↦ floored c s D order key w
       ]

@@ -2,7 +2,7 @@
 use Rattle.std.proofs.Common.{ℕ, ◌≡◌, ◌<◌, ◌≤◌, ◌+◌, ◌-◌, ◌^◌, zero, suc, true, false, cond, eqb, ◌&&◌, List, [], ◌∷◌}
 use Rattle.std.proofs.Common.{◌++◌, length, take, drop, refl, sym, subst, ◌∙◌, ap, arith, inl, inr, ◌⊎◌, eq-eqb}
 use Rattle.std.proofs.Common.{append_assoc, append-nil, take-append-drop, length-append}
-use Rattle.std.specs.Prelude.{nat_le, nat_lt}
+use Rattle.std.specs.Prelude.{nat_lt}
 use Rattle.std.specs.List.{AllByRecursion}
 use Rattle.std.proofs.Math.Nat.{pow-le-pow_right}
 use Rattle.std.proofs.lemmas.Bool.{cases_Bool, cases_lt, cond-true, cond-false, and_parts, and_from, lt-ltb, le-ltb}
@@ -15,8 +15,8 @@ use Rattle.fx_designs.specs.Problems.{Dimensions}
 use Rattle.fx_designs.specs.Nodes.{last_row}
 use Rattle.fx_strata.specs.Designs.{Strata}
 use Rattle.fx_strata.specs.Canonical.{dimensions_of, units, is_later, AreLater, IsStage, IsLaid}
-use Rattle.fx_strata.specs.Stages.{Stage, stage_after, has_units, bound, may_follow, later_rows, missing, has_no_room}
-use Rattle.fx_strata.proofs.Earlier.{InRange, stage-range}
+use Rattle.fx_strata.specs.Stages.{Stage, stage_after, has_units, bound, may_follow, missing, has_no_room}
+use Rattle.fx_strata.proofs.Earlier.{stage-range}
 use Rattle.fx_strata.proofs.Rests.{split, fits, Rest, in-stage}
 
 -- what stands at a place of the unit vectors
@@ -45,10 +45,10 @@ module _ (x : Strata) (f : IsField x.q) (c s : List ℕ) (laid : IsLaid x (c ++ 
   two = record { first_unit = x.h; units = x.m - x.h; begin = x.w; end = x.w + x.n }
 
   long : length c + length s ≡ x.w + x.n
-  long = sym (length-append c s) ∙ laid.len
+  long = cc (length-append c s)
 
   front-length : length (take x.w all) ≡ x.w
-  front-length = (let e = length-take x.w all in let e' = laid.len in omega arith)
+  front-length = (let e' = laid.len in omega (arith, length-take x.w all))
 
   parts : take x.w all ++ drop x.w all ≡ all
   parts = take-append-drop x.w all
@@ -76,7 +76,7 @@ module _ (x : Strata) (f : IsField x.q) (c s : List ℕ) (laid : IsLaid x (c ++ 
   found : (stage_after x c ≡ one) × At one ⊎ (stage_after x c ≡ two) × At two
   found = elim (cases_lt (length c) x.w) [
     | inl low ↦ inl (
-      cond-true (nat_lt (length c) x.w) one two (lt-ltb (length c) x.w low),
+      cond-true _ one two (lt-ltb _ x.w low),
       record {
         pre = [];
         rows = take x.w all;
@@ -90,7 +90,7 @@ module _ (x : Strata) (f : IsField x.q) (c s : List ℕ) (laid : IsLaid x (c ++ 
       },
     )
     | inr high ↦ inr (
-      cond-false (nat_lt (length c) x.w) one two (le-ltb (length c) x.w high),
+      cond-false _ one two (le-ltb _ x.w high),
       record {
         pre = take x.w all;
         rows = drop x.w all;
@@ -119,7 +119,7 @@ module _ (x : Strata) (f : IsField x.q) (c s : List ℕ) (laid : IsLaid x (c ++ 
 
   there-at : (st : Stage) → stage_after x c ≡ st → has_units x c ≡ true → st.begin + st.units ≤ length c
   there-at st e h =
-      let t : nat_le (st.begin + st.units) (length c) ≡ true =
+      let t =
       rw e at h in
       grind (arith, nat_tests, t)
 
@@ -133,13 +133,11 @@ module _ (x : Strata) (f : IsField x.q) (c s : List ℕ) (laid : IsLaid x (c ++ 
 
   pub no_room : has_no_room x c ≡ true → ⊥
   no_room h =
-      let p = and_parts (has_units x c) (nat_lt (length (later_rows x c)) (missing x c)) h in
+      let p = and_parts _ _ h in
       let r = rest p.0 in
       let few = ltb-true _ _ p.1 in
-      let many =
-      fits d (stage_after x c).first_unit (bound x c) r.rows r.later in
       let e = r.len in
-      omega arith
+      omega (arith, fits d (stage_after x c).first_unit _ r.rows r.later)
 
   -- all rows are below q^m
   pub low : AllByRecursion (λ r. r < x.q ^ x.m) all
@@ -148,11 +146,11 @@ module _ (x : Strata) (f : IsField x.q) (c s : List ℕ) (laid : IsLaid x (c ++ 
       let some : 0 < x.q = omega arith in
       let under : (from len : ℕ) (rows : List ℕ) → from + len ≤ x.m → IsStage d from len rows
       → AllByRecursion (λ r. r < x.q ^ x.m) rows =
-      λ from len rows room st. each-weaker (InRange d f from len) (λ r. r < x.q ^ x.m) rows
-      (λ r k. (let w = pow-le-pow_right some room in let l = k.high in omega arith))
+      λ from len rows room st. each-weaker _ (λ r. r < x.q ^ x.m) rows
+      (λ r k. (let l = k.high in omega (arith, pow-le-pow_right some room)))
       (stage-range d f from len rows st) in
       subst (AllByRecursion (λ r. r < x.q ^ x.m)) parts
-      (each-append (λ r. r < x.q ^ x.m) (take x.w all) (drop x.w all)
+      (each-append _ (take x.w all) _
       (elim (laid.first) [
         | inl e ↦ rw e tt
         | inr st ↦ under 0 x.h (take x.w all) (omega arith) st
@@ -166,17 +164,17 @@ module _ (x : Strata) (f : IsField x.q) (c s : List ℕ) (r : ℕ) (laid : IsLai
   at-unit st h early =
       let past = h.past in
       let begins = h.begins in
-      let one = split c (r ∷ s) h.pre (h.rows ++ h.post) h.is (omega arith) in
+      let one = split c _ h.pre _ h.is (omega arith) in
       let lc : length c ≡ length h.pre + length one.0 =
       cc (one.1, length-append h.pre one.0) in
       let e : units x.q st.first_unit st.units ++ (h.stage.others ++ h.post) ≡ one.0 ++ r ∷ s =
       cc (append_assoc (units x.q st.first_unit st.units) h.stage.others h.post, h.stage.is, one.2) in
-      unit-at x.q st.first_unit st.units one.0 (h.stage.others ++ h.post) s r e (omega arith)
+      unit-at x.q st.first_unit st.units one.0 _ s r e (omega arith)
       ∙ ap (λ z. x.q ^ (st.first_unit + z)) (let e : length one.0 ≡ length c - st.begin = omega arith in e)
 
   early-at : (st : Stage) → stage_after x c ≡ st → has_units x c ≡ false → length c < st.begin + st.units
   early-at st e h =
-      let t : nat_le (st.begin + st.units) (length c) ≡ false =
+      let t =
       rw e at h in
       grind (arith, nat_tests, t)
 
@@ -185,12 +183,12 @@ module _ (x : Strata) (f : IsField x.q) (c s : List ℕ) (r : ℕ) (laid : IsLai
   some-missing st e h short less which =
       let at : missing x c ≡ st.end - length c = cc in
       elim which [
-        | inl k ↦ (let l = less k in omega arith)
+        | inl k ↦ (omega (arith, less k))
         | inr k ↦ omega arith
       ]
 
   short : length c < x.w + x.n
-  short = (let e = length-append c (r ∷ s) in let e' = laid.len in omega arith)
+  short = (let e' = laid.len in omega (arith, length-append c (r ∷ s)))
 
   first-later : (xs behind : List ℕ) (from b : ℕ) → r ∷ s ≡ xs ++ behind → 0 < length xs
       → AreLater (dimensions_of x) from b xs → (is_later (dimensions_of x) from r && nat_lt r b) ≡ true
@@ -205,31 +203,33 @@ module _ (x : Strata) (f : IsField x.q) (c s : List ℕ) (r : ℕ) (laid : IsLai
     | inl t ↦
         let p = rest x f c (r ∷ s) laid t in
         let many : 0 < missing x c = elim (found x f c (r ∷ s) laid) [
-          | inl q ↦ some-missing (one x f c (r ∷ s) laid) q.0 q.1 short (λ e. elim (cases_lt (length c) x.w) [
+          | inl q ↦ some-missing _ q.0 q.1 short (λ e. elim (cases_lt (length c) x.w) [
             | inl l ↦ l
             | inr high ↦
-                absurd (let e' = le-ltb (length c) x.w high in
-                let b : x.w ≡ 0 = (let z = ap (λ (z : Stage). z.begin) (sym q.0
-                ∙ cond-false (nat_lt (length c) x.w) (one x f c (r ∷ s) laid) (two x f c (r ∷ s) laid) e') in sym z) in
-                let z = ap (λ (z : Stage). z.end) (sym q.0
-                ∙ cond-false (nat_lt (length c) x.w) (one x f c (r ∷ s) laid) (two x f c (r ∷ s) laid) e') in
+                absurd (let e' = le-ltb _ x.w high in
+                let b : x.w ≡ 0 = (sym (ap (λ z. z.begin) (sym q.0
+                ∙ cond-false _ (one x f c (r ∷ s) laid) (two x f c (r ∷ s) laid) e'))) in
                 let sh = short in
-                omega arith)
+                omega (
+                  arith,
+                  ap (λ z. z.end) (sym q.0
+                      ∙ cond-false _ (one x f c (r ∷ s) laid) (two x f c (r ∷ s) laid) e'),
+                ))
           ]) (inl refl)
-          | inr q ↦ some-missing (two x f c (r ∷ s) laid) q.0 q.1 short (λ e. (let sh = short in omega arith))
+          | inr q ↦ some-missing _ q.0 q.1 short (λ e. (let sh = short in omega arith))
               (inr refl)
         ] in
         let e = p.len in
-        cond-true (has_units x c)
+        cond-true _
         (is_later (dimensions_of x) (stage_after x c).first_unit r && nat_lt r (bound x c))
         (eqb r (x.q ^ ((stage_after x c).first_unit + (length c - (stage_after x c).begin)))) t
-        ∙ first-later p.rows p.behind (stage_after x c).first_unit (bound x c) p.is (omega arith) p.later
+        ∙ first-later p.rows p.behind (stage_after x c).first_unit _ p.is (omega arith) p.later
     | inr o ↦
-        cond-false (has_units x c)
+        cond-false _
         (is_later (dimensions_of x) (stage_after x c).first_unit r && nat_lt r (bound x c))
         (eqb r (x.q ^ ((stage_after x c).first_unit + (length c - (stage_after x c).begin)))) o
         ∙ elim (found x f c (r ∷ s) laid) [
-          | inl q ↦ rw q.0 (eq-eqb _ _ (at-unit (one x f c (r ∷ s) laid) q.1 (early-at (one x f c (r ∷ s) laid) q.0 o)))
-          | inr q ↦ rw q.0 (eq-eqb _ _ (at-unit (two x f c (r ∷ s) laid) q.1 (early-at (two x f c (r ∷ s) laid) q.0 o)))
+          | inl q ↦ rw q.0 (eq-eqb _ _ (at-unit _ q.1 (early-at _ q.0 o)))
+          | inr q ↦ rw q.0 (eq-eqb _ _ (at-unit _ q.1 (early-at _ q.0 o)))
         ]
   ]

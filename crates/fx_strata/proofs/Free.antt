@@ -1,5 +1,5 @@
 -- Rows without words of one or two, as a sum that is 0.
-use Rattle.std.proofs.Common.{ℕ, ◌≡◌, ◌<◌, ◌≤◌, Bool, true, false, cond, eqb, ◌&&◌, List, [], ◌∷◌, ◌++◌, length, ◌∙◌}
+use Rattle.std.proofs.Common.{ℕ, ◌≡◌, ◌≤◌, Bool, true, false, cond, List, [], ◌∷◌, ◌++◌, length, ◌∙◌}
 use Rattle.std.proofs.Common.{ap, arith, eq-eqb, inl, inr}
 use Rattle.std.specs.List.{AllByRecursion, sum_by}
 use Rattle.std.proofs.lemmas.List.Sums.{sum_by-cons}
@@ -7,7 +7,6 @@ use Rattle.std.proofs.lemmas.List.Elements.{All-from_recursion}
 use Rattle.std.proofs.lemmas.Bool.{cases_eq, and_from}
 use Rattle.fx_designs.specs.Galois.{IsField}
 use Rattle.fx_designs.specs.Vectors.{zeros, weight, is_zero, combination, IsVector}
-use Rattle.fx_designs.specs.Runs.{points}
 use Rattle.fx_laws.proofs.Space.{AreVectors}
 use Rattle.fx_laws.proofs.Shift.{points-each}
 use Rattle.fx_laws.proofs.Falling.{IsWordFree}
@@ -31,13 +30,12 @@ module _ (q m : ℕ) (f : IsField q) where
   none_of : (k : ℕ) (rows : List (List ℕ)) → total q m f (counted q m f is_zero k) rows ≡ 0 → (u : List ℕ)
       → IsVector q (length rows) u → weight u ≡ k → combination q m u rows ≡ zeros m → ⊥
   none_of k rows h u hu e z =
-      let some : 0 < q = omega arith in
       let at : List ℕ → ℕ = λ u. counted q m f is_zero k (weight u) (combination q m u rows) in
       let none =
-      points-each q (length rows) some (λ u. at u ≡ 0)
-      (All-from_recursion (λ u. at u ≡ 0) (points q (length rows)) (each-none at (points q (length rows)) h)) u hu in
-      not-both (is_zero (combination q m u rows) && eqb (weight u) k) none
-      (and_from _ _ (ap is_zero z ∙ eq-eqb (weight (zeros m)) 0 (weight-zeros m)) (eq-eqb (weight u) k e))
+      points-each q _ (omega arith) (λ u. at u ≡ 0)
+      (All-from_recursion _ _ (each-none at _ h)) u hu in
+      not-both _ none
+      (and_from _ _ (ap is_zero z ∙ eq-eqb _ 0 (weight-zeros m)) (eq-eqb _ k e))
 
   pub word-free : (rows : List (List ℕ)) → IsFree rows → IsWordFree q m f rows
   word-free rows h u hu some few z = elim (cases_eq (weight u) 1) [
@@ -49,9 +47,7 @@ module _ (q m : ℕ) (f : IsField q) where
       → total q m f g ys ≤ total q m f g (xs ++ ys)
   more g [] ys hx hy = omega arith
   more g (x ∷ xs) ys hx hy =
-      let a = more g xs ys hx.1 hy in
-      let b = total-grows q m f g x (xs ++ ys) hx.0 (both xs ys hx.1 hy) in
-      omega arith
+      omega (arith, more g xs ys hx.1 hy, total-grows q m f g x _ hx.0 (both xs ys hx.1 hy))
     where
       both : (xs ys : List (List ℕ)) → AreVectors q m xs → AreVectors q m ys → AreVectors q m (xs ++ ys)
       both [] ys hx hy = hy
@@ -59,12 +55,12 @@ module _ (q m : ℕ) (f : IsField q) where
 
   pub free-back : (xs ys : List (List ℕ)) → AreVectors q m xs → AreVectors q m ys → IsFree (xs ++ ys) → IsFree ys
   free-back xs ys hx hy h = record {
-    one = (let e = h.one in let l = more (counted q m f is_zero 1) xs ys hx hy in omega arith);
-    two = (let e = h.two in let l = more (counted q m f is_zero 2) xs ys hx hy in omega arith);
+    one = (let e = h.one in omega (arith, more (counted q m f is_zero 1) xs ys hx hy));
+    two = (let e = h.two in omega (arith, more (counted q m f is_zero 2) xs ys hx hy));
   }
 
   pub free-front : (xs ys : List (List ℕ)) → AreVectors q m xs → AreVectors q m ys → IsFree (xs ++ ys) → IsFree xs
   free-front xs ys hx hy h = free-back ys xs hy hx (record {
-    one = total-turned q m f (counted q m f is_zero 1) ys xs ∙ h.one;
-    two = total-turned q m f (counted q m f is_zero 2) ys xs ∙ h.two;
+    one = cc (total-turned q m f (counted q m f is_zero 1) ys xs);
+    two = cc (total-turned q m f (counted q m f is_zero 2) ys xs);
   })

@@ -1,6 +1,6 @@
 -- What a good book shows: no design is better than what it claims.
-use Rattle.std.proofs.Common.{ℕ, ◌≡◌, ◌<◌, ◌≤◌, ◌+◌, ◌*◌, ◌^◌, zero, suc, Bool, true, false, ◌&&◌, ◌||◌, eqb, List, []}
-use Rattle.std.proofs.Common.{◌∷◌, ◌++◌, map, length, Option, Some, None, refl, sym, subst, ◌∙◌, ap, ap₂, arith, inl}
+use Rattle.std.proofs.Common.{ℕ, ◌≡◌, ◌<◌, ◌≤◌, ◌+◌, ◌*◌, ◌^◌, zero, suc, Bool, true, false, ◌||◌, eqb, List, []}
+use Rattle.std.proofs.Common.{◌∷◌, ◌++◌, map, length, Option, Some, None, refl, sym, subst, ap₂, arith, inl}
 use Rattle.std.proofs.Common.{inr, eqb-true, append_assoc, length-append}
 use Rattle.std.specs.Prelude.{nat_lt}
 use Rattle.std.specs.List.{AllByRecursion, filter}
@@ -20,7 +20,6 @@ use Rattle.fx_strata.specs.Designs.{Strata, Part, Words, Unclear, Figures, Order
 use Rattle.fx_strata.specs.Designs.{base_of, figures_of}
 use Rattle.fx_strata.specs.Canonical.{base, figures, IsDesign}
 use Rattle.fx_strata.specs.Images.{has_earlier_image}
-use Rattle.fx_strata.specs.Stages.{may_follow, has_no_room}
 use Rattle.fx_strata.specs.Floors.{does_not_beat, cannot_beat}
 use Rattle.fx_strata.specs.Books.{Claim, Entry, Branch, Worse, Image, NoRoom, Floor, is_right, children, turns_after}
 use Rattle.fx_strata.specs.Books.{are_in_turn, is_good}
@@ -54,13 +53,13 @@ part-less u v few clear Unclear = clear
 key-less : (order : Order) (u v : Figures) → ((b : Bool) (k : ℕ) → u.words b k ≤ v.words b k)
     → u.unclear ≤ v.unclear
     → is_less (key_of order v) (key_of order u) ≡ false
-key-less order u v few clear = not_less (part_of u) (part_of v) order (part-less u v few clear)
+key-less order u v few clear = not_less _ _ order (part-less u v few clear)
 
 -- what is not greater than a better key is better
 still-better : (beat : Option (List ℕ)) (a b : List ℕ) → length a ≡ length b → is_less b a ≡ false
     → is_better beat b ≡ true → is_better beat a ≡ true
 still-better None a b len few h = refl
-still-better (Some key) a b len few h = elim (less-either b a (sym len) few) [
+still-better (Some key) a b len few h = elim (less-either b a (cc) few) [
   | inl same ↦ cc same
   | inr less ↦ less-trans a b key less h
 ]
@@ -83,26 +82,23 @@ place-below b (suc n) (a ∷ v) h =
 -- what stands before is of greater place
 before-place : (b : ℕ) (xs ys : List ℕ) → length xs ≡ length ys → AllByRecursion (λ r. r < b) xs
     → AllByRecursion (λ r. r < b) ys → before xs ys ≡ true → place b ys < place b xs
-before-place b [] [] e hx hy h = absurd (cc h)
+before-place b [] [] e hx hy h = cc h
 before-place b [] (y ∷ ys) e hx hy h = absurd (omega arith)
 before-place b (x ∷ xs) [] e hx hy h = absurd (omega arith)
 before-place b (x ∷ xs) (y ∷ ys) e hx hy h =
     let same : length xs ≡ length ys = omega arith in
-    elim (or_cases (nat_lt y x) (eqb x y && before xs ys) h) [
+    elim (or_cases _ _ h) [
       | inl t ↦
           let less : y < x = ltb-true y x t in
           let under : place b ys < b ^ length ys =
           place-below b (length ys) ys (record { len = refl; codes = hy.1 }) in
           let wide : (y + 1) * b ^ length ys ≤ x * b ^ length ys = mul-le-mul_right (b ^ length ys) (omega arith) in
           let parts : (y + 1) * b ^ length ys ≡ y * b ^ length ys + b ^ length ys = add_one-mul y (b ^ length ys) in
-          let is : x * b ^ length xs ≡ x * b ^ length ys = ap (λ n. x * b ^ n) same in
+          let is : x * b ^ length xs ≡ x * b ^ length ys = cc same in
           omega arith
       | inr t ↦
-          let p = and_parts (eqb x y) (before xs ys) t in
-          let rest = before-place b xs ys same hx.1 hy.1 p.1 in
-          let is : x * b ^ length xs ≡ y * b ^ length ys =
-          ap₂ (λ (a n : ℕ). a * b ^ n) (eqb-true x y p.0) same in
-          omega arith
+          let p = and_parts _ _ t in
+          omega (arith, before-place b xs ys same hx.1 hy.1 p.1, ap₂ (λ (a n : ℕ). a * b ^ n) (eqb-true x y p.0) same)
     ]
 
 module _ (x : Claim) (f : IsField x.strata.q) where
@@ -132,28 +128,26 @@ module _ (x : Claim) (f : IsField x.strata.q) where
       let rest = filter p (falling n) in
       elim (cases_Bool (p n)) [
         | inl t ↦
-            let all' : IsClosed (c ++ n ∷ []) × AllByRecursion IsClosed (map (λ r. c ++ r ∷ []) rest) =
-            rw (cond-true (p n) (n ∷ rest) rest t) at all in
+            let all' =
+            rw (cond-true _ (n ∷ rest) rest t) at all in
             elim (cases_eq r n) [
               | inl e ↦ rw e all'.0
               | inr ne ↦ each-at c p n r (omega arith) h all'.1
             ]
         | inr o ↦
-            let all' : AllByRecursion IsClosed (map (λ r. c ++ r ∷ []) rest) =
-            rw (cond-false (p n) (n ∷ rest) rest o) at all in
             elim (cases_eq r n) [
-              | inl e ↦ absurd (both_ways (p n) o (rw e at h))
-              | inr ne ↦ each-at c p n r (omega arith) h all'
+              | inl e ↦ absurd (both_ways _ o (rw e at h))
+              | inr ne ↦ each-at c p n r (omega arith) h (rw (cond-false _ (n ∷ rest) rest o) at all)
             ]
       ]
 
   closed_by_children : (c : List ℕ) → length c < size → AllByRecursion IsClosed (children st c) → IsClosed c
   closed_by_children c part h [] first =
-      absurd (let e = first.design.laid.len in let e' = length-append c [] in omega arith)
+      absurd (let e = first.design.laid.len in omega (arith, length-append c []))
   closed_by_children c part h (r ∷ s) first =
-      let lows = (each-append_parts (λ r. r < st.q ^ st.m) c (r ∷ s) (low st f c (r ∷ s) first.design.laid)).1 in
+      let lows = (each-append_parts _ c _ (low st f c _ first.design.laid)).1 in
       let k =
-      each-at c (may_follow st c) (st.q ^ st.m) r lows.0 (follows st f c s r first.design.laid) h in
+      each-at c _ _ r lows.0 (follows st f c s r first.design.laid) h in
       k s (subst IsFirst (sym (append_assoc c (r ∷ []) s)) first)
 
   -- no better design is below what an entry leaves out
@@ -164,7 +158,7 @@ module _ (x : Claim) (f : IsField x.strata.q) where
       by : (beat : Option (List ℕ)) → (does_not_beat st x.order beat c || cannot_beat st x.order beat c) ≡ true
           → is_better beat (key_of x.order (figures st (c ++ s))) ≡ true → ⊥
       by None h b = cc h
-      by (Some key) h b = both_ways (is_less (key_of x.order (figures st (c ++ s))) key)
+      by (Some key) h b = both_ways _
           (none_below st f x.order c s key h first.design) b
 
   image-closes : (c s change : List ℕ) → has_earlier_image st change c ≡ true → IsFirst (c ++ s) → ⊥
@@ -176,7 +170,7 @@ module _ (x : Claim) (f : IsField x.strata.q) where
 
   turns_close : (todo : List (List ℕ)) (es : List Entry) → are_in_turn x todo es ≡ true → AllByRecursion IsClosed todo
   turns_close [] es h = tt
-  turns_close (c ∷ cs) [] h = absurd (cc h)
+  turns_close (c ∷ cs) [] h = cc h
   turns_close (c ∷ cs) (e ∷ es) h =
       let p = and_parts (is_right x c e) (are_in_turn x (turns_after x c e cs) es) h in
       entry e p.0 (turns_close (turns_after x c e cs) es p.1)
@@ -189,43 +183,45 @@ module _ (x : Claim) (f : IsField x.strata.q) where
           (closed_by_children c part parts.0, parts.1)
       entry (Worse r) right k = (
         λ s. worse-closes c s (or_left (does_not_beat st x.order x.beat c) (cannot_beat st x.order x.beat c)
-            (and_parts (eqb r (last_row c)) (does_not_beat st x.order x.beat c) right).1),
+            (and_parts _ _ right).1),
         k,
       )
       entry (Image r change) right k = (
-        λ s. image-closes c s change (and_parts (eqb r (last_row c)) (has_earlier_image st change c) right).1,
+        λ s. image-closes c s change (and_parts _ _ right).1,
         k,
       )
       entry (NoRoom r) right k = (
-        λ s first. no_room st f c s first.design.laid (and_parts (eqb r (last_row c)) (has_no_room st c) right).1,
+        λ s first. no_room st f c s first.design.laid (and_parts _ _ right).1,
         k,
       )
       entry (Floor r) right k = (
         λ s. worse-closes c s (or_right (does_not_beat st x.order x.beat c) (cannot_beat st x.order x.beat c)
-            (and_parts (eqb r (last_row c)) (cannot_beat st x.order x.beat c) right).1),
+            (and_parts _ _ right).1),
         k,
       )
 
   module _ (some : 0 < size) (es : List Entry) (good : is_good x es ≡ true) where
     none_first : (rows : List ℕ) → IsFirst rows → ⊥
-    none_first rows first = closed_by_children [] some (turns_close (children st []) es good) rows first
+    none_first rows first = closed_by_children [] some (turns_close _ es good) rows first
 
     -- so there is none at all: of finitely many some would be the first
     none_from : (left : ℕ) (rows : List ℕ) → IsDesign st rows → better rows ≡ true
         → (st.q ^ st.m) ^ size < place (st.q ^ st.m) rows + left → ⊥
     none_from zero rows design b h =
-        let under =
-        place-below (st.q ^ st.m) size rows
-        (record { len = design.laid.len; codes = low st f [] rows design.laid }) in
-        omega arith
+        omega (
+          arith,
+          place-below (st.q ^ st.m) size rows
+              (record { len = design.laid.len; codes = low st f [] rows design.laid }),
+        )
     none_from (suc left) rows design b h = none_first rows (record {
       design = design;
       is_better = b;
       none_before = λ other D b' before.
-          let more =
-          before-place (st.q ^ st.m) other rows (D.laid.len ∙ sym design.laid.len) (low st f [] other D.laid)
-          (low st f [] rows design.laid) before in
-          none_from left other D b' (omega arith);
+          none_from left other D b' (omega (
+            arith,
+            before-place _ other rows (cc) (low st f [] other D.laid)
+                (low st f [] rows design.laid) before,
+          ));
     })
 
     pub none_better : HasFactors st → NoneBetter x
@@ -237,19 +233,19 @@ module _ (x : Claim) (f : IsField x.strata.q) where
           length-map x.order (part_of (figures st r.0)),
           length-map x.order (part_of (figures_of st (base_of st blocks factors) factors)),
         ))
-        (key-less x.order (figures st r.0) (figures_of st (base_of st blocks factors) factors) r.1.words r.1.unclear) b)
+        (key-less x.order _ _ r.1.words r.1.unclear) b)
         (omega arith))
 
     pub least_of_all : HasFactors st → LeastOfAll x
     least_of_all many rows tested is =
         let D = designs_are_tested st rows tested in
-        let key =
-        key-same x.order (figures_of st (base_of st (base st) (vectors_of st.q st.m rows)) (vectors_of st.q st.m rows))
-        (figures st rows) (same st f rows D) (same-unclear st f rows D) in
         record {
           design = canonical_are_designs st f rows D;
           least = λ blocks factors stratified.
-              ap (λ k. is_less (key_of_design st x.order blocks factors) k) key
-              ∙ ap (λ b. is_better b (key_of_design st x.order blocks factors)) (sym is)
-              ∙ none_better many blocks factors stratified;
+              cc (
+                (key-same x.order
+                    (figures_of st (base_of st (base st) (vectors_of st.q st.m rows)) (vectors_of st.q st.m rows))
+                    (figures st rows) (same st f rows D) (same-unclear st f rows D)),
+                none_better many blocks factors stratified,
+              );
         }

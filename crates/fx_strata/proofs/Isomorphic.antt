@@ -1,6 +1,6 @@
 -- Isomorphic designs have one key.
 use Rattle.std.proofs.Common.{ℕ, ◌≡◌, ◌<◌, ◌≤◌, zero, suc, Bool, true, false, cond, eqb}
-use Rattle.std.proofs.Common.{List, [], ◌∷◌, ◌++◌, map, length, take, refl, sym, subst, ◌∙◌, ap, ap₂, arith, inl, inr}
+use Rattle.std.proofs.Common.{List, [], ◌∷◌, ◌++◌, map, length, take, refl, sym, subst, ◌∙◌, ap, arith, inl, inr}
 use Rattle.std.specs.Prelude.{All}
 use Rattle.std.proofs.lemmas.Bool.{cases_Bool, cond-true, cond-false, ne_eqb}
 use Rattle.std.proofs.lemmas.List.{length-map}
@@ -80,14 +80,14 @@ module _ (q m : ℕ) (f : IsField q) where
       → in_span q m bs r ≡ true
   span-from cs bs d r e some low hb hr t =
       let s =
-      in_span-true q m f (scaled q cs bs) (scale q d r) (scaled-vectors q f m cs bs hb)
+      in_span-true q m f _ _ (scaled-vectors q f m cs bs hb)
       (scale-vector q m f d r hr) t in
-      let hu : IsVector q (length bs) s.by =
+      let hu =
       rw (scaled-length q f cs bs e) at s.vector in
       let u = times q cs s.by in
       in_span-holds q m f bs r (record {
         by = scale q (inv q d) u;
-        vector = scale-vector q (length bs) f (inv q d) u (times-vector q f (length bs) cs s.by e hu);
+        vector = scale-vector q _ f _ u (times-vector q f _ cs s.by e hu);
         gives = cc (
           scaled_sum q m f (inv q d) u bs hb,
           scaled-combination q f m cs s.by bs e hu.len,
@@ -100,8 +100,8 @@ module _ (q m : ℕ) (f : IsField q) where
       → 0 < d → d < q → AreVectors q m bs → IsVector q m r
       → in_span q m (scaled q cs bs) (scale q d r) ≡ in_span q m bs r
   span-multiples cs bs d r h e some low hb hr =
-      bool_same (in_span q m (scaled q cs bs) (scale q d r)) (in_span q m bs r) (span-from cs bs d r e some low hb hr)
-      (λ t. span-from (map (inv q) cs) (scaled q cs bs) (inv q d) (scale q d r)
+      bool_same _ _ (span-from cs bs d r e some low hb hr)
+      (λ t. span-from _ _ _ _
       (length-map cs (inv q) ∙ e ∙ sym (scaled-length q f cs bs e)) (inv-positive q f d some low) (f.inv_code d)
       (scaled-vectors q f m cs bs hb) (scale-vector q m f d r hr)
       (cc (all-unscaled cs bs h hb e, unscaled d r some low hr)))
@@ -117,8 +117,8 @@ module _ (q m : ℕ) (f : IsField q) where
         span-multiples cs bs d r h e h'.0.0 h'.0.1 hb hr.0,
         scaled-push q cs bs d r e,
         rank-multiples (cs ++ d ∷ []) ds (bs ++ r ∷ []) rows
-            (each-append (λ c. (0 < c) × (c < q)) cs (d ∷ []) h (h'.0, tt)) h'.1 (length-push cs bs d r e) (omega arith)
-            (each-append (λ r. IsVector q m r) bs (r ∷ []) hb (hr.0, tt)) hr.1,
+            (each-append _ cs _ h (h'.0, tt)) h'.1 (length-push cs bs d r e) (omega arith)
+            (each-append _ bs _ hb (hr.0, tt)) hr.1,
       )
 
 module _ (x : Strata) (f : IsField x.q) where
@@ -149,7 +149,7 @@ module _ (x : Strata) (f : IsField x.q) where
         λ v hv. cc (null v hv, inside v hv) in
         cc (
           words-same factors' factors hf all (is_in_base x base') (is_in_base x base) same k,
-          words-same (take x.w factors') (take x.w factors) (each-take (λ r. IsVector x.q x.m r) x.w factors hf) front
+          words-same _ _ (each-take _ x.w factors hf) front
               (is_in_base x base') (is_in_base x base) same k,
         )
 
@@ -158,10 +158,10 @@ module _ (x : Strata) (f : IsField x.q) where
     base = base_of x blocks factors
 
     hb : AreVectors x.q x.m blocks
-    hb = recursion_from_All (λ r. IsVector x.q x.m r) blocks D.block_rows
+    hb = recursion_from_All _ blocks D.block_rows
 
     hf : AreVectors x.q x.m factors
-    hf = recursion_from_All (λ r. IsVector x.q x.m r) factors D.factor_rows
+    hf = recursion_from_All _ factors D.factor_rows
 
     enough : x.w ≤ length factors
     enough = (let e = D.factor_count in omega arith)
@@ -176,13 +176,13 @@ module _ (x : Strata) (f : IsField x.q) where
         → IsAlike x blocks factors blocks' factors'
     alike blocks' factors' hb' hf' count rank words unclear = record {
       design = record {
-        factor_count = count ∙ D.factor_count;
-        block_rows = All-from_recursion (λ r. IsVector x.q x.m r) blocks' hb';
-        factor_rows = All-from_recursion (λ r. IsVector x.q x.m r) factors' hf';
-        base = rank ∙ D.base;
-        none_of_one = words false 1 ∙ D.none_of_one;
-        none_of_two = words false 2 ∙ D.none_of_two;
-        none_confounded = words true 1 ∙ D.none_confounded;
+        factor_count = cc;
+        block_rows = All-from_recursion _ blocks' hb';
+        factor_rows = All-from_recursion _ factors' hf';
+        base = cc;
+        none_of_one = cc (words false 1);
+        none_of_two = cc (words false 2);
+        none_confounded = cc (words true 1);
       };
       words = words;
       unclear = unclear;
@@ -190,9 +190,9 @@ module _ (x : Strata) (f : IsField x.q) where
 
     base-vectors : AreVectors x.q x.m base
     base-vectors = elim (cases_Bool (eqb x.w 0)) [
-      | inl t ↦ subst (AreVectors x.q x.m) (sym (cond-true (eqb x.w 0) blocks (take x.w factors) t)) hb
-      | inr o ↦ subst (AreVectors x.q x.m) (sym (cond-false (eqb x.w 0) blocks (take x.w factors) o))
-          (each-take (λ r. IsVector x.q x.m r) x.w factors hf)
+      | inl t ↦ subst (AreVectors x.q x.m) (sym (cond-true _ blocks (take x.w factors) t)) hb
+      | inr o ↦ subst (AreVectors x.q x.m) (sym (cond-false _ blocks (take x.w factors) o))
+          (each-take _ x.w factors hf)
     ]
 
     -- a change of the run indexes
@@ -200,38 +200,41 @@ module _ (x : Strata) (f : IsField x.q) where
       base-changed : base_of x (map a blocks) (map a factors) ≡ map a base
       base-changed = elim (cases_Bool (eqb x.w 0)) [
         | inl t ↦ cc (
-          cond-true (eqb x.w 0) (map a blocks) (take x.w (map a factors)) t,
-          cond-true (eqb x.w 0) blocks (take x.w factors) t,
+          cond-true _ (map a blocks) (take x.w (map a factors)) t,
+          cond-true _ blocks (take x.w factors) t,
         )
         | inr o ↦ cc (
-          cond-false (eqb x.w 0) (map a blocks) (take x.w (map a factors)) o,
+          cond-false _ (map a blocks) (take x.w (map a factors)) o,
           take-changed a x.w factors,
-          cond-false (eqb x.w 0) blocks (take x.w factors) o,
+          cond-false _ blocks (take x.w factors) o,
         )
       ]
 
       changed-words : (b : Bool) (k : ℕ) → words_of x (map a base) (map a factors) b k ≡ words_of x base factors b k
       changed-words b k =
-          words-are-sums x f (map a base) (map a factors) (map-vectors x.q x.m f a change base base-vectors)
-          (map-vectors x.q x.m f a change factors hf) (let e = length-map factors a in omega (arith, enough)) b k
-          ∙ sums-same a (map a base) base (map a factors) factors hf
-          (λ g. total-changed x.q x.m f g a change factors hf)
-          (λ g. cc (
-            take-changed a x.w factors,
-            total-changed x.q x.m f g a change (take x.w factors) (each-take (λ r. IsVector x.q x.m r) x.w factors hf),
-          ))
-          (λ v hv. zero-changed x.q x.m f a change v hv)
-          (λ v hv. in_span-change x.q x.m f a change base v base-vectors hv) b k
-          ∙ sym (words-are-sums x f base factors base-vectors hf enough b k)
+          cc (
+            words-are-sums x f _ _ (map-vectors x.q x.m f a change base base-vectors)
+                (map-vectors x.q x.m f a change factors hf) (let e = length-map factors a in omega (arith, enough)) b k,
+            sums-same a (map a base) base _ factors hf
+                (λ g. total-changed x.q x.m f g a change factors hf)
+                (λ g. cc (
+                  take-changed a x.w factors,
+                  total-changed x.q x.m f g a change _ (each-take _ x.w factors hf),
+                ))
+                (λ v hv. zero-changed x.q x.m f a change v hv)
+                (λ v hv. in_span-change x.q x.m f a change base v base-vectors hv) b k,
+            words-are-sums x f base factors
+                base-vectors hf enough b k,
+          )
 
       by-change : IsAlike x blocks factors (map a blocks) (map a factors)
       by-change =
-          alike (map a blocks) (map a factors) (map-vectors x.q x.m f a change blocks hb)
+          alike _ _ (map-vectors x.q x.m f a change blocks hb)
           (map-vectors x.q x.m f a change factors hf) (length-map factors a)
           (cc (base-changed, rank-change x.q x.m f a change [] base tt base-vectors))
           (λ b k. cc (base-changed, changed-words b k))
           (ap (λ z. unclear_of x z (map a factors)) base-changed
-          ∙ (let s = same_clear x f base factors (All-from_recursion (λ r. IsVector x.q x.m r) base base-vectors)
+          ∙ (let s = same_clear x f base factors (All-from_recursion _ base base-vectors)
           D.factor_rows in s.change a change))
 
     -- multiples of the rows
@@ -244,15 +247,15 @@ module _ (x : Strata) (f : IsField x.q) where
       base-scaled : base_of x (scaled x.q bs blocks) (scaled x.q cs factors) ≡ scaled x.q codes base
       base-scaled = elim (cases_Bool (eqb x.w 0)) [
         | inl t ↦ cc (
-          cond-true (eqb x.w 0) (scaled x.q bs blocks) (take x.w (scaled x.q cs factors)) t,
-          cond-true (eqb x.w 0) bs (take x.w cs) t,
-          cond-true (eqb x.w 0) blocks (take x.w factors) t,
+          cond-true _ (scaled x.q bs blocks) (take x.w (scaled x.q cs factors)) t,
+          cond-true _ bs (take x.w cs) t,
+          cond-true _ blocks (take x.w factors) t,
         )
         | inr o ↦ cc (
-          cond-false (eqb x.w 0) (scaled x.q bs blocks) (take x.w (scaled x.q cs factors)) o,
+          cond-false _ (scaled x.q bs blocks) (take x.w (scaled x.q cs factors)) o,
           take-scaled x.q x.w cs factors,
-          cond-false (eqb x.w 0) bs (take x.w cs) o,
-          cond-false (eqb x.w 0) blocks (take x.w factors) o,
+          cond-false _ bs (take x.w cs) o,
+          cond-false _ blocks (take x.w factors) o,
         )
       ]
 
@@ -260,16 +263,16 @@ module _ (x : Strata) (f : IsField x.q) where
       codes-good : AreScalars x.q codes × (length codes ≡ length base)
       codes-good = elim (cases_Bool (eqb x.w 0)) [
         | inl t ↦ (
-          subst (AreScalars x.q) (sym (cond-true (eqb x.w 0) bs (take x.w cs) t)) h,
-          cc (cond-true (eqb x.w 0) bs (take x.w cs) t, cond-true (eqb x.w 0) blocks (take x.w factors) t),
+          subst (AreScalars x.q) (sym (cond-true _ bs (take x.w cs) t)) h,
+          cc (cond-true _ bs (take x.w cs) t, cond-true _ blocks (take x.w factors) t),
         )
         | inr o ↦ (
-          subst (AreScalars x.q) (sym (cond-false (eqb x.w 0) bs (take x.w cs) o))
-              (each-take (λ c. (0 < c) × (c < x.q)) x.w cs h'),
+          subst (AreScalars x.q) (sym (cond-false _ bs (take x.w cs) o))
+              (each-take _ x.w cs h'),
           cc (
-            cond-false (eqb x.w 0) bs (take x.w cs) o,
+            cond-false _ bs (take x.w cs) o,
             take-as-many x.w cs factors e',
-            cond-false (eqb x.w 0) blocks (take x.w factors) o,
+            cond-false _ blocks (take x.w factors) o,
           ),
         )
       ]
@@ -300,16 +303,19 @@ module _ (x : Strata) (f : IsField x.q) where
       scaled-words : (b : Bool) (k : ℕ) → words_of x base' factors' b k ≡ words_of x base factors b k
       unfolding factors'
       scaled-words b k =
-          words-are-sums x f base' factors' hs hg
-          (let s = scaled-length x.q f cs factors e' in omega (arith, enough)) b k
-          ∙ sums-same (λ v. v) base' base factors' factors hf (λ g. total-scaled x.q x.m f g cs factors h' e')
-          (λ g. cc (
-            take-scaled x.q x.w cs factors,
-            total-scaled x.q x.m f g (take x.w cs) (take x.w factors) (each-take (λ c. (0 < c) × (c < x.q)) x.w cs h')
-                (take-as-many x.w cs factors e'),
-          ))
-          (λ v hv. refl) inside b k
-          ∙ sym (words-are-sums x f base factors base-vectors hf enough b k)
+          cc (
+            words-are-sums x f base' factors' hs hg
+                (let s = scaled-length x.q f cs factors e' in omega (arith, enough)) b k,
+            sums-same (λ v. v) base' base
+                factors' factors hf (λ g. total-scaled x.q x.m f g cs factors h' e')
+                (λ g. cc (
+                  take-scaled x.q x.w cs factors,
+                  total-scaled x.q x.m f g _ _ (each-take _ x.w cs h')
+                      (take-as-many x.w cs factors e'),
+                ))
+                (λ v hv. refl) inside b k,
+            words-are-sums x f base factors base-vectors hf enough b k,
+          )
 
       scaled-clear : unclear_of x base' factors' ≡ unclear_of x base factors
       unfolding factors'
@@ -319,13 +325,13 @@ module _ (x : Strata) (f : IsField x.q) where
           (is_unclear_sum x base factors')
           (λ v hv. cc (inside v hv)) 2
           ∙ sym (unclear-are-sums x f base factors' base-vectors hg)
-          ∙ (let s = same_clear x f base factors (All-from_recursion (λ r. IsVector x.q x.m r) base base-vectors)
+          ∙ (let s = same_clear x f base factors (All-from_recursion _ base base-vectors)
           D.factor_rows in s.multiples cs h' e')
 
       by-multiples : IsAlike x blocks factors (scaled x.q bs blocks) (scaled x.q cs factors)
       unfolding base' factors'
       by-multiples =
-          alike (scaled x.q bs blocks) (scaled x.q cs factors) (scaled-vectors x.q f x.m bs blocks hb) hg
+          alike _ _ (scaled-vectors x.q f x.m bs blocks hb) hg
           (scaled-length x.q f cs factors e')
           (cc (
             base-scaled,
@@ -340,11 +346,9 @@ module _ (x : Strata) (f : IsField x.q) where
         → IsAlike x blocks factors others factors
     by-others some others ho =
         let no = ne_eqb x.w 0 (λ e. omega arith) in
-        let same : base_of x others factors ≡ base =
-        cond-false (eqb x.w 0) others (take x.w factors) no
-        ∙ sym (cond-false (eqb x.w 0) blocks (take x.w factors) no) in
-        alike others factors (recursion_from_All (λ r. IsVector x.q x.m r) others ho) hf refl
-        (ap (rank_of x.q x.m) same) (λ b k. cc)
+        alike others factors (recursion_from_All _ others ho) hf refl
+        (cc (cond-false _ others (take x.w factors) no
+        ∙ sym (cond-false _ blocks (take x.w factors) no))) (λ b k. cc)
         (cc)
 
 pub isomorphic_are_alike : (x : Strata) → IsField x.q → IsomorphicAreAlike x
@@ -359,14 +363,14 @@ alike_have_one_key x [] blocks factors others rows A = refl
 alike_have_one_key x (Words b k ∷ order) blocks factors others rows A =
     cc (A.words b k, alike_have_one_key x order blocks factors others rows A)
 alike_have_one_key x (Unclear ∷ order) blocks factors others rows A =
-    ap₂ (λ y ys. y ∷ ys) A.unclear (alike_have_one_key x order blocks factors others rows A)
+    cc (alike_have_one_key x order blocks factors others rows A)
 
 pub alike_are_alike : (x : Strata) (blocks factors bs fs others rows : List (List ℕ)) → IsAlike x blocks factors bs fs
     → IsAlike x bs fs others rows → IsAlike x blocks factors others rows
 alike_are_alike x blocks factors bs fs others rows A B = record {
   design = B.design;
   words = λ b k. B.words b k ∙ A.words b k;
-  unclear = B.unclear ∙ A.unclear;
+  unclear = cc;
 }
 
 pub alike_are_least : (x : Strata) (order : Order) (blocks factors others rows : List (List ℕ))

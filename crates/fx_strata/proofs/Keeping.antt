@@ -1,7 +1,7 @@
 -- An exchange of the run indexes that keeps the base.
-use Rattle.std.proofs.Common.{ℕ, ◌≡◌, ◌<◌, ◌≤◌, ◌+◌, ◌^◌, zero, suc, true, eqb, List, [], ◌∷◌, ◌++◌, map, length, refl}
-use Rattle.std.proofs.Common.{sym, subst, ◌∙◌, ap, ap₂, arith, inl, inr, cond}
-use Rattle.std.specs.List.{AllByRecursion, list_any}
+use Rattle.std.proofs.Common.{ℕ, ◌≡◌, ◌<◌, ◌≤◌, ◌+◌, ◌^◌, zero, suc, true, List, [], ◌∷◌, ◌++◌, map, length, refl}
+use Rattle.std.proofs.Common.{sym, subst, ◌∙◌, arith, inl, inr, cond}
+use Rattle.std.specs.List.{AllByRecursion}
 use Rattle.std.proofs.lemmas.Bool.{cases_lt, cases_Bool}
 use Rattle.std.proofs.Math.Nat.{pow-le-pow_right}
 use Rattle.std.proofs.lemmas.List.{map-append}
@@ -43,8 +43,8 @@ module _ (x : Strata) (f : IsField x.q) (room : x.h ≤ x.m) (change : List ℕ)
   pub brought : (from len : ℕ) (rows : List ℕ) → brings x change from len rows ≡ true → (i : ℕ) → from ≤ i
       → i < from + len → IsMember (x.q ^ i) (map (moved (d x f room) change) rows)
   brought from len rows h i low high =
-      any_member (moved (d x f room) change) (x.q ^ i) rows
-      (all_range (λ i. list_any (λ r. eqb (moved (d x f room) change r) (x.q ^ i)) rows) from len h i low high)
+      any_member _ _ rows
+      (all_range _ from len h i low high)
 
   module _ (ins os : List ℕ)
       (first : (i : ℕ) → i < x.h → IsMember (x.q ^ i) (map (moved (d x f room) change) ins))
@@ -52,10 +52,10 @@ module _ (x : Strata) (f : IsField x.q) (room : x.h ≤ x.m) (change : List ℕ)
     pub is-change : IsChange x.q x.m by
     is-change = invertible (d x f room) f change count (ins ++ os) (λ i low. elim (cases_lt i x.h) [
       | inl less ↦ subst (IsMember (x.q ^ i)) (sym (map-append (moved (d x f room) change) ins os))
-          (member-left (x.q ^ i) (map (moved (d x f room) change) ins) (map (moved (d x f room) change) os)
+          (member-left _ _ (map (moved (d x f room) change) os)
           (first i less))
       | inr past ↦ subst (IsMember (x.q ^ i)) (sym (map-append (moved (d x f room) change) ins os))
-          (member-right (x.q ^ i) (map (moved (d x f room) change) ins) (map (moved (d x f room) change) os)
+          (member-right _ (map (moved (d x f room) change) ins) _
           (second i past low))
     ])
 
@@ -71,16 +71,13 @@ module _ (x : Strata) (f : IsField x.q) (room : x.h ≤ x.m) (change : List ℕ)
           let v = digits x.q x.m r in
           let hv = digits-vector x.q x.m r pos in
           let c = normal_factor x.q x.m f (by v) in
-          let w = scale x.q c v in
-          let is = levels-scale x.q f (vectors_of x.q x.m change) c v in
-          let hb = scale-vector x.q x.m f c (by v) (is-change.vector v hv) in
           let wide = pow-le-pow_right pos room in
-          let here = number-digits x.q x.m r pos (omega arith) in
-          let short = number-short x.q x.m x.h f v hv (omega arith) in (
-            w,
+          let short = number-short x.q x.m x.h f v hv (omega (arith, number-digits x.q x.m r pos (omega arith))) in (
+            scale x.q c v,
             scale-vector x.q x.m f c v hv,
             short-scale x.q x.h c f v short,
-            is ∙ number-same x.q x.m f (scale x.q c (by v)) (unit x.m i) hb (unit-vector x.q x.m i f)
+            (levels-scale x.q f (vectors_of x.q x.m change) c v) ∙ number-same x.q x.m f _ _
+                (scale-vector x.q x.m f c _ (is-change.vector v hv)) (unit-vector x.q x.m i f)
                 (e ∙ sym (number-unit x.q x.m i small)),
           )
 
@@ -91,18 +88,19 @@ module _ (x : Strata) (f : IsField x.q) (room : x.h ≤ x.m) (change : List ℕ)
       preimages k (suc j) fits =
           let one = preimage k ins (omega arith) low (first k (omega arith)) in
           let more = preimages (suc k) j (omega arith) in
-          (one.0 ∷ more.0, (one.1, more.1), (one.2, more.2), ap₂ (λ x xs. x ∷ xs) one.3 more.3)
+          (one.0 ∷ more.0, (one.1, more.1), (one.2, more.2), cc)
 
       from : (v : List ℕ) → IsVector x.q x.m v → IsShort x.h (by v) → IsShort x.h v
       from v hv s =
           let span = (base-spans x f room).all (by v) (is-change.vector v hv) s in
           let ws = preimages 0 x.h (omega arith) in
-          let same : base x ≡ map by ws.0 = units-vectors (d x f room) f 0 x.h (omega arith) ∙ sym ws.3 in
           let is : by (combination x.q x.m span.by ws.0) ≡ by v =
-          sym (change-combination x.q x.m f by is-change span.by ws.0 ws.1)
-          ∙ ap (combination x.q x.m span.by) (sym same) ∙ span.gives in
+          cc (
+            change-combination x.q x.m f by is-change span.by ws.0 ws.1,
+            (units-vectors (d x f room) f 0 x.h (omega arith) ∙ sym ws.3),
+          ) in
           subst (IsShort x.h)
-          (change-injective x.q x.m f by is-change (combination x.q x.m span.by ws.0) v
+          (change-injective x.q x.m f by is-change _ v
           (combination-vector x.q x.m f span.by ws.0 ws.1) hv is)
           (short-combination x.q x.m x.h f span.by ws.0 ws.2)
 
@@ -111,13 +109,13 @@ module _ (x : Strata) (f : IsField x.q) (room : x.h ≤ x.m) (change : List ℕ)
       into v hv s =
           let ws = preimages 0 x.h (omega arith) in
           let rank =
-          rank-lifted x.q x.m f (vectors_of x.q x.m change) (many (d x f room) f change count) 0 x.h [] ws.0
+          rank-lifted x.q x.m f _ (many (d x f room) f change count) 0 x.h [] ws.0
           (omega arith)
           tt ws.1 (spans-none x.q x.m f) ws.3 in
           let most =
-          rank-short x.q x.m x.h f (ws.0 ++ v ∷ []) room
-          (each-append (λ r. IsVector x.q x.m r) ws.0 (v ∷ []) ws.1 (hv, tt))
-          (each-append (λ r. IsShort x.h r) ws.0 (v ∷ []) ws.2 (s, tt)) in
+          rank-short x.q x.m x.h f _ room
+          (each-append _ ws.0 (v ∷ []) ws.1 (hv, tt))
+          (each-append _ ws.0 (v ∷ []) ws.2 (s, tt)) in
           let more = rank-snoc x.q x.m f [] ws.0 v in
           let inside : in_span x.q x.m ws.0 v ≡ true =
           elim (cases_Bool (in_span x.q x.m ws.0 v)) [
@@ -127,17 +125,19 @@ module _ (x : Strata) (f : IsField x.q) (room : x.h ≤ x.m) (change : List ℕ)
                 omega arith)
           ] in
           let span = in_span-true x.q x.m f ws.0 v ws.1 hv inside in
-          let same : base x ≡ map by ws.0 = units-vectors (d x f room) f 0 x.h (omega arith) ∙ sym ws.3 in
           let is : combination x.q x.m span.by (base x) ≡ by v =
-          ap (combination x.q x.m span.by) same
-          ∙ change-combination x.q x.m f by is-change span.by ws.0 ws.1 ∙ ap by span.gives in
+          cc (
+            (units-vectors (d x f room) f 0 x.h (omega arith) ∙ sym ws.3),
+            change-combination x.q x.m f by is-change
+                span.by ws.0 ws.1,
+          ) in
           subst (IsShort x.h) is
-          (short-combination x.q x.m x.h f span.by (base x) (base-spans x f room).short)
+          (short-combination x.q x.m x.h f span.by _ (base-spans x f room).short)
 
       pub keeps : (v : List ℕ) → IsVector x.q x.m v
           → in_span x.q x.m (base x) (by v) ≡ in_span x.q x.m (base x) v
       keeps v hv =
           let hb = is-change.vector v hv in
-          bool_same (in_span x.q x.m (base x) (by v)) (in_span x.q x.m (base x) v)
-          (λ e. base-in x f room v hv (from v hv (in-base x f room (by v) hb e)))
-          (λ e. base-in x f room (by v) hb (into v hv (in-base x f room v hv e)))
+          bool_same _ _
+          (λ e. base-in x f room v hv (from v hv (in-base x f room _ hb e)))
+          (λ e. base-in x f room _ hb (into v hv (in-base x f room v hv e)))

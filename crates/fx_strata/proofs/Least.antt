@@ -1,5 +1,5 @@
 -- Canonical designs are designs.
-use Rattle.std.proofs.Common.{ℕ, ◌≡◌, ◌<◌, ◌≤◌, ◌+◌, ◌-◌, ◌^◌, Bool, true, false, not, cond, eqb, ◌&&◌, List, [], ◌∷◌}
+use Rattle.std.proofs.Common.{ℕ, ◌≡◌, ◌<◌, ◌≤◌, ◌+◌, ◌-◌, Bool, true, false, not, cond, eqb, ◌&&◌, List, [], ◌∷◌}
 use Rattle.std.proofs.Common.{◌++◌, length, take, drop, refl, sym, subst, ◌∙◌, ap₂, arith, inl, inr, eq-eqb}
 use Rattle.std.proofs.Common.{append-nil, take-append-drop}
 use Rattle.std.specs.List.{AllByRecursion, range_with_len}
@@ -87,17 +87,17 @@ module _ (x : Strata) (f : IsField x.q) (rows : List ℕ) (D : IsDesign x rows) 
 
   hb : AreVectors x.q x.m bs
   hb = elim (cases_eq x.w 0) [
-    | inl e ↦ subst (AreVectors x.q x.m) (sym (cond-true (eqb x.w 0) (base x) (take x.w F) (eq-eqb x.w 0 e)))
+    | inl e ↦ subst (AreVectors x.q x.m) (sym (cond-true _ (base x) (take x.w F) (eq-eqb x.w 0 e)))
         (rows-vectors x.q x.m f (units x.q 0 x.h))
-    | inr ne ↦ subst (AreVectors x.q x.m) (sym (cond-false (eqb x.w 0) (base x) (take x.w F) (ne_eqb x.w 0 ne)))
-        (each-take (λ r. IsVector x.q x.m r) x.w F hF)
+    | inr ne ↦ subst (AreVectors x.q x.m) (sym (cond-false _ (base x) (take x.w F) (ne_eqb x.w 0 ne)))
+        (each-take _ x.w F hF)
   ]
 
   spans : Spans x.q x.m x.h bs
   spans = spans-formed x.q x.m 0 x.h f [] bs hb (spans-none x.q x.m f) formed
 
   same-span : (v : List ℕ) → IsVector x.q x.m v → in_span x.q x.m bs v ≡ in_span x.q x.m (base x) v
-  same-span v hv = bool_same (in_span x.q x.m bs v) (in_span x.q x.m (base x) v)
+  same-span v hv = bool_same _ _
       (λ e. base-in x f room v hv
       (spans-short x.q x.m f x.h bs v spans (in_span-true x.q x.m f bs v hb hv e)))
       (λ e. in_span-holds x.q x.m f bs v (spans.all v hv (in-base x f room v hv e)))
@@ -122,9 +122,9 @@ module _ (x : Strata) (f : IsField x.q) (rows : List ℕ) (D : IsDesign x rows) 
       elim (cases_eq (weight u) 0) [
         | inl e ↦
             let none : w ≡ zeros x.m =
-            cc (zeros_from_weight u (length zs) hu.len e, none-combination x.q x.m f (length zs) zs hz) in
+            cc (zeros_from_weight u _ hu.len e, none-combination x.q x.m f (length zs) zs hz) in
             let is : plus x.q (scale x.q c y) w ≡ scale x.q c y =
-            cc (plus-zero x.q x.m f (scale x.q c y) (scale-vector x.q x.m f c y hy)) in
+            cc (plus-zero x.q x.m f _ (scale-vector x.q x.m f c y hy)) in
             cc (
               out c pos low,
               nothing (not (is_zero (scale x.q c y)))
@@ -152,7 +152,7 @@ module _ (x : Strata) (f : IsField x.q) (rows : List ℕ) (D : IsDesign x rows) 
       total-cons x.q x.m f g y zs
       ∙ codes-split x.q x.m f
       (λ c. total x.q x.m f (λ j v. g (cond {A = ℕ} (nat_lt 0 c) 1 0 + j) (plus x.q (scale x.q c y) v)) zs)
-      ∙ ap₂ (λ (a b : ℕ). a + b) (none-first x.q x.m f g y zs hy hz)
+      ∙ ap₂ (λ a b. a + b) (none-first x.q x.m f g y zs hy hz)
       (sum_by-same _ (λ c. 0) 1 (x.q - 1)
       (λ c low high. with-code y zs hy hz out c low (omega arith))
       ∙ sum_by-zero (range_with_len 1 (x.q - 1)))
@@ -162,7 +162,7 @@ module _ (x : Strata) (f : IsField x.q) (rows : List ℕ) (D : IsDesign x rows) 
       → AllByRecursion (λ y. IsOut y) ys → total x.q x.m f g (ys ++ zs) ≡ total x.q x.m f g zs
   all-more [] zs hy hz out = refl
   all-more (y ∷ ys) zs hy hz out =
-      one-more y (ys ++ zs) hy.0 (each-append (λ r. IsVector x.q x.m r) ys zs hy.1 hz) out.0
+      one-more y _ hy.0 (each-append _ ys zs hy.1 hz) out.0
       ∙ all-more ys zs hy.1 hz out.1
 
   others-out : (rs : List ℕ) → AllByRecursion (λ r. InRange d f x.h (x.m - x.h) r) rs
@@ -172,14 +172,17 @@ module _ (x : Strata) (f : IsField x.q) (rows : List ℕ) (D : IsDesign x rows) 
   others-out (r ∷ rs) l =
       let v = digits x.q x.m r in
       let hv = digits-vector x.q x.m r some in
-      let top : r < x.q ^ x.m =
-      subst (λ n. r < x.q ^ n) (let e : x.h + (x.m - x.h) ≡ x.m = omega (arith, room) in e) l.0.high in
-      let here = number-digits x.q x.m r some top in
+      let top =
+      rw (let e : x.h + (x.m - x.h) ≡ x.m = omega (arith, room) in e) at l.0.high in
       let low = l.0.low in (
-        λ c pos small. false_from_ne_true (in_span x.q x.m (base x) (scale x.q c v))
-            (λ t. let short = short-number x.q x.m x.h f v hv
-            (unscaled x f room c v pos small hv
-            (in-base x f room (scale x.q c v) (scale-vector x.q x.m f c v hv) t)) in omega arith),
+        λ c pos small. false_from_ne_true _
+            (λ t. omega (
+              arith,
+              number-digits x.q x.m r some top,
+              short-number x.q x.m x.h f v hv
+                  (unscaled x f room c v pos small hv
+                  (in-base x f room _ (scale-vector x.q x.m f c v hv) t)),
+            )),
         others-out rs l.1,
       )
 
@@ -188,17 +191,17 @@ module _ (x : Strata) (f : IsField x.q) (rows : List ℕ) (D : IsDesign x rows) 
   none-confounded =
       let W = take x.w F in
       let Y = drop x.w F in
-      let hW = each-take (λ r. IsVector x.q x.m r) x.w F hF in
-      let hY = each-drop (λ r. IsVector x.q x.m r) x.w F hF in
+      let hW = each-take _ x.w F hF in
+      let hY = each-drop _ x.w F hF in
       let out : AllByRecursion (λ y. IsOut y) Y =
-      subst (AllByRecursion (λ y. IsOut y)) (sym (drop-map (λ r. digits x.q x.m r) x.w rows))
-      (others-out (drop x.w rows) (stage-range d f x.h (x.m - x.h) (drop x.w rows) D.laid.second)) in
+      subst (AllByRecursion (λ y. IsOut y)) (sym (drop-map (digits x.q x.m) x.w rows))
+      (others-out _ (stage-range d f x.h _ _ D.laid.second)) in
       let same : total x.q x.m f g F ≡ total x.q x.m f g W =
       cc (take-append-drop x.w F, total-turned x.q x.m f g W Y, all-more Y W hY hW out) in
       omega arith
 
   count : length F ≡ x.w + x.n
-  count = length-map rows (λ r. digits x.q x.m r) ∙ D.laid.len
+  count = cc (length-map rows (digits x.q x.m))
 
   same-words : (zs : List (List ℕ)) → AreVectors x.q x.m zs → (k : ℕ)
       → words_in x.q x.m (is_in_base x bs) zs k ≡ words_in x.q x.m (is_in_base x (base x)) zs k
@@ -212,7 +215,7 @@ module _ (x : Strata) (f : IsField x.q) (rows : List ℕ) (D : IsDesign x rows) 
   same true k = cc (
     words-are-sums x f bs F hb hF (omega (arith, count)) true k,
     same-words F hF k,
-    same-words (take x.w F) (each-take (λ r. IsVector x.q x.m r) x.w F hF) k,
+    same-words _ (each-take _ x.w F hF) k,
   )
 
   pub same-unclear : unclear_of x bs F ≡ unclear x rows
@@ -220,18 +223,17 @@ module _ (x : Strata) (f : IsField x.q) (rows : List ℕ) (D : IsDesign x rows) 
   same-unclear = unclear-are-sums x f bs F hb hF
       ∙ total-same x.q x.m f (counted x.q x.m f (is_unclear_sum x (base x) F) 2)
       (counted x.q x.m f (is_unclear_sum x bs F) 2) F F refl
-      (λ u hu. cc (same-span (combination x.q x.m u F) (combination-vector x.q x.m f u F hF)))
+      (λ u hu. cc (same-span _ (combination-vector x.q x.m f u F hF)))
 
   stratified : IsStratified x (base x) F
   stratified = record {
     factor_count = count;
-    block_rows = All-from_recursion (λ r. IsVector x.q x.m r) (base x) (rows-vectors x.q x.m f (units x.q 0 x.h));
-    factor_rows = All-from_recursion (λ r. IsVector x.q x.m r) F hF;
+    block_rows = All-from_recursion _ _ (rows-vectors x.q x.m f (units x.q 0 x.h));
+    factor_rows = All-from_recursion _ F hF;
     base =
-        (let e =
-        rank-formed x.q x.m f 0 x.h [] bs hb (spans-none x.q x.m f) formed in omega arith);
-    none_of_one = same false 1 ∙ D.none_of_one;
-    none_of_two = same false 2 ∙ D.none_of_two;
+        (omega (arith, rank-formed x.q x.m f 0 x.h [] bs hb (spans-none x.q x.m f) formed));
+    none_of_one = cc (same false 1);
+    none_of_two = cc (same false 2);
     none_confounded = same true 1 ∙ none-confounded;
   }
 

@@ -1,5 +1,5 @@
 -- Rows in falling order: more rows make each place greater, and any order is reached by swaps of neighbours.
-use Rattle.std.proofs.Common.{ℕ, ◌≡◌, ◌<◌, ◌≤◌, suc, Bool, true, false, cond, List, [], ◌∷◌, ◌++◌, map, refl, sym}
+use Rattle.std.proofs.Common.{ℕ, ◌≡◌, ◌<◌, ◌≤◌, suc, Bool, true, false, List, [], ◌∷◌, ◌++◌, map, refl, sym}
 use Rattle.std.proofs.Common.{subst, ◌∙◌, ap, arith, inl, inr, ◌⊎◌, eq-eqb, eqb-true}
 use Rattle.std.specs.Prelude.{nat_lt}
 use Rattle.std.specs.List.{AllByRecursion, filter}
@@ -7,7 +7,7 @@ use Rattle.std.proofs.lemmas.Bool.{cases_Bool, cases_lt, cond-true, cond-false, 
 use Rattle.std.proofs.lemmas.Bool.{and_from, ltb-true, lt-ltb, le-ltb, both_ways}
 use Rattle.fx_designs.specs.Answers.{before}
 use Rattle.fx_designs.specs.Patterns.{is_less}
-use Rattle.fx_laws.specs.Reorders.{swapped, reordered}
+use Rattle.fx_laws.specs.Reorders.{reordered}
 use Rattle.fx_laws.proofs.Reorders.{reordered-inside, reordered-append, reorder_behind}
 use Rattle.fx_strata.specs.Changes.{put, falling_order}
 
@@ -29,9 +29,9 @@ Falls (x ∷ xs) = AllByRecursion (λ y. y ≤ x) xs × Falls xs
 put-low : (r b : ℕ) (xs : List ℕ) → r ≤ b → AllByRecursion (λ y. y ≤ b) xs → AllByRecursion (λ y. y ≤ b) (put r xs)
 put-low r b [] low h = (low, tt)
 put-low r b (x ∷ xs) low h = elim (cases_Bool (nat_lt r x)) [
-  | inl t ↦ subst (AllByRecursion (λ y. y ≤ b)) (sym (cond-true (nat_lt r x) (x ∷ put r xs) (r ∷ x ∷ xs) t))
+  | inl t ↦ subst (AllByRecursion (λ y. y ≤ b)) (sym (cond-true _ (x ∷ put r xs) (r ∷ x ∷ xs) t))
       (h.0, put-low r b xs low h.1)
-  | inr t ↦ subst (AllByRecursion (λ y. y ≤ b)) (sym (cond-false (nat_lt r x) (x ∷ put r xs) (r ∷ x ∷ xs) t)) (low, h)
+  | inr t ↦ subst (AllByRecursion (λ y. y ≤ b)) (sym (cond-false _ (x ∷ put r xs) (r ∷ x ∷ xs) t)) (low, h)
 ]
 
 lower : (a b : ℕ) (xs : List ℕ) → a ≤ b → AllByRecursion (λ y. y ≤ a) xs → AllByRecursion (λ y. y ≤ b) xs
@@ -41,62 +41,62 @@ lower a b (x ∷ xs) h all = ((let e = all.0 in omega arith), lower a b xs h all
 put-falls : (r : ℕ) (xs : List ℕ) → Falls xs → Falls (put r xs)
 put-falls r [] h = (tt, tt)
 put-falls r (x ∷ xs) h = elim (cases_lt r x) [
-  | inl low ↦ subst Falls (sym (cond-true (nat_lt r x) (x ∷ put r xs) (r ∷ x ∷ xs) (lt-ltb r x low)))
+  | inl low ↦ subst Falls (sym (cond-true _ (x ∷ put r xs) (r ∷ x ∷ xs) (lt-ltb r x low)))
       (put-low r x xs (omega arith) h.0, put-falls r xs h.1)
-  | inr high ↦ subst Falls (sym (cond-false (nat_lt r x) (x ∷ put r xs) (r ∷ x ∷ xs) (le-ltb r x high)))
+  | inr high ↦ subst Falls (sym (cond-false _ (x ∷ put r xs) (r ∷ x ∷ xs) (le-ltb r x high)))
       ((high, lower x r xs high h.0), h)
 ]
 
 pub order-falls : (xs : List ℕ) → Falls (falling_order xs)
 order-falls [] = tt
-order-falls (x ∷ xs) = put-falls x (falling_order xs) (order-falls xs)
+order-falls (x ∷ xs) = put-falls x _ (order-falls xs)
 
 -- a greatest first row against one put among others
 under-front : (r x : ℕ) (xs ys : List ℕ) → x ≤ r → Falls (x ∷ xs) → IsUnder xs ys → IsUnder (x ∷ xs) (put r ys)
 under-front r x [] [] le falls h = (le, tt)
 under-front r x (z ∷ xs) [] le falls h = absurd h
 under-front r x [] (y ∷ ys) le falls h = elim (cases_lt r y) [
-  | inr high ↦ subst (IsUnder (x ∷ [])) (sym (cond-false (nat_lt r y) (y ∷ put r ys) (r ∷ y ∷ ys) (le-ltb r y high)))
+  | inr high ↦ subst (IsUnder (x ∷ [])) (sym (cond-false _ (y ∷ put r ys) (r ∷ y ∷ ys) (le-ltb r y high)))
       (le, h)
-  | inl low ↦ subst (IsUnder (x ∷ [])) (sym (cond-true (nat_lt r y) (y ∷ put r ys) (r ∷ y ∷ ys) (lt-ltb r y low)))
+  | inl low ↦ subst (IsUnder (x ∷ [])) (sym (cond-true _ (y ∷ put r ys) (r ∷ y ∷ ys) (lt-ltb r y low)))
       (omega arith, tt)
 ]
 under-front r x (z ∷ xs) (y ∷ ys) le falls h = elim (cases_lt r y) [
   | inr high ↦ subst (IsUnder (x ∷ (z ∷ xs)))
-      (sym (cond-false (nat_lt r y) (y ∷ put r ys) (r ∷ y ∷ ys) (le-ltb r y high))) (le, h)
-  | inl low ↦ subst (IsUnder (x ∷ (z ∷ xs))) (sym (cond-true (nat_lt r y) (y ∷ put r ys) (r ∷ y ∷ ys) (lt-ltb r y low)))
+      (sym (cond-false _ (y ∷ put r ys) (r ∷ y ∷ ys) (le-ltb r y high))) (le, h)
+  | inl low ↦ subst (IsUnder (x ∷ (z ∷ xs))) (sym (cond-true _ (y ∷ put r ys) (r ∷ y ∷ ys) (lt-ltb r y low)))
       (omega arith, under-front r z xs ys (let e = falls.0.0 in omega arith) falls.1 h.1)
 ]
 
 under-put : (r : ℕ) (xs ys : List ℕ) → Falls xs → IsUnder xs ys → IsUnder (put r xs) (put r ys)
 under-put r [] [] falls h = (omega arith, tt)
 under-put r [] (y ∷ ys) falls h = elim (cases_lt r y) [
-  | inl low ↦ subst (IsUnder (r ∷ [])) (sym (cond-true (nat_lt r y) (y ∷ put r ys) (r ∷ y ∷ ys) (lt-ltb r y low)))
+  | inl low ↦ subst (IsUnder (r ∷ [])) (sym (cond-true _ (y ∷ put r ys) (r ∷ y ∷ ys) (lt-ltb r y low)))
       (omega arith, tt)
-  | inr high ↦ subst (IsUnder (r ∷ [])) (sym (cond-false (nat_lt r y) (y ∷ put r ys) (r ∷ y ∷ ys) (le-ltb r y high)))
+  | inr high ↦ subst (IsUnder (r ∷ [])) (sym (cond-false _ (y ∷ put r ys) (r ∷ y ∷ ys) (le-ltb r y high)))
       (omega arith, tt)
 ]
 under-put r (x ∷ xs) [] falls h = absurd h
 under-put r (x ∷ xs) (y ∷ ys) falls h = elim (cases_lt r x) [
   | inl low ↦
-      let low' : r < y = (let e = h.0 in omega arith) in
-      rw (cond-true (nat_lt r x) (x ∷ put r xs) (r ∷ x ∷ xs) (lt-ltb r x low))
-      (subst (IsUnder (x ∷ put r xs)) (sym (cond-true (nat_lt r y) (y ∷ put r ys) (r ∷ y ∷ ys) (lt-ltb r y low')))
+      rw (cond-true _ (x ∷ put r xs) (r ∷ x ∷ xs) (lt-ltb r x low))
+      (subst (IsUnder (x ∷ put r xs))
+      (sym (cond-true _ (y ∷ put r ys) (r ∷ y ∷ ys) (lt-ltb r y (let e = h.0 in omega arith))))
       (h.0, under-put r xs ys falls.1 h.1))
   | inr high ↦
-      rw (cond-false (nat_lt r x) (x ∷ put r xs) (r ∷ x ∷ xs) (le-ltb r x high)) (elim (cases_lt r y) [
+      rw (cond-false _ (x ∷ put r xs) (r ∷ x ∷ xs) (le-ltb r x high)) (elim (cases_lt r y) [
         | inl low' ↦ subst (IsUnder (r ∷ x ∷ xs))
-            (sym (cond-true (nat_lt r y) (y ∷ put r ys) (r ∷ y ∷ ys) (lt-ltb r y low')))
+            (sym (cond-true _ (y ∷ put r ys) (r ∷ y ∷ ys) (lt-ltb r y low')))
             (omega arith, under-front r x xs ys high falls h.1)
         | inr high' ↦ subst (IsUnder (r ∷ x ∷ xs))
-            (sym (cond-false (nat_lt r y) (y ∷ put r ys) (r ∷ y ∷ ys) (le-ltb r y high'))) (omega arith, h)
+            (sym (cond-false _ (y ∷ put r ys) (r ∷ y ∷ ys) (le-ltb r y high'))) (omega arith, h)
       ])
 ]
 
 -- with more rows
 pub under-order : (xs ys : List ℕ) → IsUnder (falling_order xs) (falling_order (xs ++ ys))
 under-order [] ys = tt
-under-order (x ∷ xs) ys = under-put x (falling_order xs) (falling_order (xs ++ ys)) (order-falls xs) (under-order xs ys)
+under-order (x ∷ xs) ys = under-put x _ _ (order-falls xs) (under-order xs ys)
 
 -- what is nowhere less than a list that has the greater element at the first difference precedes what begins with
 -- the other
@@ -114,8 +114,7 @@ stands_before (x ∷ rows) rest (y ∷ im) (z ∷ more) h u =
             let s = and_parts _ _ same in
             let e : x ≡ y = eqb-true _ _ s.0 in
             let le = u.0 in
-            let is : z ≡ x = omega arith in
-            or_right _ _ (and_from _ _ (eq-eqb z x is) (stands_before rows rest im more s.1 u.1))
+            or_right _ _ (and_from _ _ (eq-eqb z x (omega arith)) (stands_before rows rest im more s.1 u.1))
       ]
     ]
 
@@ -126,9 +125,9 @@ put_by_swaps r (x ∷ xs) = elim (cases_Bool (nat_lt r x)) [
   | inl t ↦
       let p = put_by_swaps r xs in (
         0 ∷ map (λ k. suc k) p.0,
-        cc (reordered-inside x p.0 (r ∷ xs), p.1, cond-true (nat_lt r x) (x ∷ put r xs) (r ∷ x ∷ xs) t),
+        cc (reordered-inside x p.0 (r ∷ xs), p.1, cond-true _ (x ∷ put r xs) (r ∷ x ∷ xs) t),
       )
-  | inr t ↦ ([], sym (cond-false (nat_lt r x) (x ∷ put r xs) (r ∷ x ∷ xs) t))
+  | inr t ↦ ([], sym (cond-false _ (x ∷ put r xs) (r ∷ x ∷ xs) t))
 ]
 
 pub order_by_swaps : (xs : List ℕ) → (ks : List ℕ) × (reordered ks xs ≡ falling_order xs)
@@ -165,7 +164,7 @@ module _ (test : ℕ → Bool) where
     swaps = [];
     rest = ys;
     is = cc;
-    kept = sym (cond-false (test y) (y ∷ filter test ys) (filter test ys) (ap test e ∙ none));
+    kept = sym (cond-false _ (y ∷ filter test ys) (filter test ys) (ap test e ∙ none));
     members = λ z h. elim h [ inl e' ↦ inl (inl (sym e ∙ e')) | inr r ↦ inr r ];
   }
   pull_one x (y ∷ ys) none (inr h) =
@@ -173,9 +172,8 @@ module _ (test : ℕ → Bool) where
       record {
         swaps = map (λ k. suc k) p.swaps ++ 0 ∷ [];
         rest = y ∷ p.rest;
-        is = reordered-append (map (λ k. suc k) p.swaps) (0 ∷ []) (y ∷ ys)
-            ∙ ap (swapped 0) (reordered-inside y p.swaps ys ∙ ap (λ z. y ∷ z) p.is);
-        kept = ap (λ l. cond (test y) (y ∷ l) l) p.kept;
+        is = cc (reordered-append (map (λ k. suc k) p.swaps) (0 ∷ []) (y ∷ ys), reordered-inside y p.swaps ys);
+        kept = cc;
         members = λ z k. elim k [
           | inl e ↦ inr (inl e)
           | inr r ↦ elim (p.members z r) [ inl a ↦ inl a | inr a ↦ inr (inr a) ]
@@ -193,9 +191,8 @@ module _ (test : ℕ → Bool) where
       record {
         swaps = one.swaps ++ behind.0;
         rest = more.rest;
-        is = reordered-append one.swaps behind.0 xs ∙ ap (reordered behind.0) one.is ∙ behind.1
-            ∙ ap (λ z. x ∷ z) more.is;
-        kept = more.kept ∙ one.kept;
+        is = cc (reordered-append one.swaps behind.0 xs);
+        kept = cc;
         members = λ z k. elim (one.members z k) [
           | inl a ↦ inl (elim a [ inl e ↦ inl e | inr b ↦ absurd b ])
           | inr a ↦ elim (more.members z a) [ inl b ↦ inl (inr b) | inr b ↦ inr b ]

@@ -76,7 +76,7 @@ module _ (q m : ℕ) (f : IsField q) where
       (λ u. value u ≡ sum_by (λ n. at-number g n (weight u) (combination q m u rows)) ns)
       (λ u hu.
       let below =
-      number-below q m (combination q m u rows) (combination-vector q m f u rows hr) in
+      number-below q m _ (combination-vector q m f u rows hr) in
       sym (sum_by-pick (λ n. value u) (number q (combination q m u rows)) 0 (q ^ m) (omega arith) (omega arith)))))
       ∙ sum_by-swap (λ u n. at-number g n (weight u) (combination q m u rows)) ps ns
 
@@ -85,9 +85,9 @@ module _ (q m : ℕ) (f : IsField q) where
   weighs k j v = cond (eqb j k) 1 0
 
   one-more : (k j : ℕ) → eqb (1 + j) (suc k) ≡ eqb j k
-  one-more k j = bool_same (eqb (1 + j) (suc k)) (eqb j k)
-      (λ e. eq-eqb j k (let h = eqb-true (1 + j) (suc k) e in omega arith))
-      (λ e. eq-eqb (1 + j) (suc k) (let h = eqb-true j k e in omega arith))
+  one-more k j = bool_same _ _
+      (λ e. eq-eqb j k (omega (arith, eqb-true _ _ e)))
+      (λ e. eq-eqb (1 + j) (suc k) (omega (arith, eqb-true j k e)))
 
   weighs-split : (k : ℕ) (r : List ℕ) (rows : List (List ℕ))
       → total q m f (weighs k) (r ∷ rows)
@@ -98,11 +98,11 @@ module _ (q m : ℕ) (f : IsField q) where
         total-cons q m f (weighs k) r rows,
         codes-split q m f (λ c. total q m f (rest q m f (weighs k) r c) rows),
         sum_by-ext _ _ (points q (length rows))
-            (λ u. ap (λ (j : ℕ). cond {A = ℕ} (eqb j k) 1 0) (let e : 0 + weight u ≡ weight u = omega arith in e)),
+            (λ u. ap (λ j. cond {A = ℕ} (eqb j k) 1 0) (let e : 0 + weight u ≡ weight u = omega arith in e)),
       )
 
   bit-one : (c : ℕ) → 1 ≤ c → bit q m f c ≡ 1
-  bit-one c h = cond-true (nat_lt 0 c) 1 0 (lt-ltb 0 c h)
+  bit-one c h = cond-true _ 1 0 (lt-ltb 0 c h)
 
   weighs-more : (k : ℕ) (r : List ℕ) (rows : List (List ℕ))
       → total q m f (weighs (suc k)) (r ∷ rows)
@@ -126,7 +126,7 @@ module _ (q m : ℕ) (f : IsField q) where
         none-weigh rows,
         sum_by-same (λ c. total q m f (rest q m f (weighs 0) r c) rows) (λ c. 0) 1 (q - 1)
             (λ c low high. sum_by-ext _ (λ u. 0) (points q (length rows))
-            (λ u. ap (λ (b : ℕ). cond {A = ℕ} (eqb (b + weight u) 0) 1 0) (bit-one c low)
+            (λ u. ap (λ b. cond {A = ℕ} (eqb (b + weight u) 0) 1 0) (bit-one c low)
             ∙ ap (λ b. cond {A = ℕ} b 1 0) (ne_eqb (1 + weight u) 0 (λ e. omega arith)))
             ∙ sum_by-zero (points q (length rows))),
         sum_by-zero (range_with_len 1 (q - 1)),
@@ -136,7 +136,7 @@ module _ (q m : ℕ) (f : IsField q) where
   ones-weigh [] = (let e : 0 ≡ (q - 1) * 0 = grind arith in e)
   ones-weigh (r ∷ rows) =
       weighs-more 0 r rows
-      ∙ ap₂ (λ (a b : ℕ). a + (q - 1) * b) (ones-weigh rows) (none-weigh rows)
+      ∙ ap₂ (λ a b. a + (q - 1) * b) (ones-weigh rows) (none-weigh rows)
       ∙ (let e : (q - 1) * length rows + (q - 1) * 1 ≡ (q - 1) * suc (length rows) = grind arith in e)
 
   pub pairs-weigh : (rows : List (List ℕ)) → total q m f (weighs 2) rows ≡ pairs q (length rows)
@@ -154,7 +154,7 @@ module _ (q m : ℕ) (f : IsField q) where
   parted true (suc (suc (suc j))) =
       let one = ne_eqb (suc (suc (suc j))) 1 (λ e. omega arith) in
       let two = ne_eqb (suc (suc (suc j))) 2 (λ e. omega arith) in
-      rw (one, two) refl
+      rw (one, two)
 
   pub effects-parts : (rows : List (List ℕ)) (v : List ℕ)
       → effects_at q m rows v ≡ spread q m rows 1 (number q v) + spread q m rows 2 (number q v)
@@ -203,7 +203,7 @@ module _ (q m : ℕ) (f : IsField q) where
     | inr y ↦ inr y
     | inl e ↦ elim (all-or Q g xs h.1) [
       | inr y ↦ inr y
-      | inl e' ↦ inl (let s = sum_by-cons g x xs in omega arith)
+      | inl e' ↦ inl (omega (arith, sum_by-cons g x xs))
     ]
   ]
 
@@ -214,14 +214,14 @@ module _ (q m : ℕ) (f : IsField q) where
   pub multiples-once : (rows : List (List ℕ)) → AreVectors q m rows → IsFree q m f rows → (n : ℕ)
       → spread q m rows 1 n ≤ 1
   multiples-once rows hr free n =
-      let k : ℕ = length rows in
-      let ps : List (List ℕ) = points q k in
+      let k = length rows in
+      let ps = points q k in
       let P : List ℕ → Bool = λ u. eqb (number q (combination q m u rows)) n && eqb (weight u) 1 in
-      let C : ℕ = sum_by (λ u. cond {A = ℕ} (P u) 1 0) ps in
-      let is : spread q m rows 1 n ≡ C = spread-total rows 1 n in
+      let C = sum_by (λ u. cond {A = ℕ} (P u) 1 0) ps in
+      let is = spread-total rows 1 n in
       let no-two : (u w : List ℕ) → IsVector q k u → IsVector q k w → P u ≡ true → P w ≡ true → (u ≡ w → ⊥) → ⊥ =
       λ u w hu hw pu pw apart.
-      let a = and_parts (eqb (number q (combination q m u rows)) n) (eqb (weight u) 1) pu in
+      let a = and_parts _ _ pu in
       let b = and_parts (eqb (number q (combination q m w rows)) n) (eqb (weight w) 1) pw in
       let one : weight u ≡ 1 = eqb-true _ _ a.1 in
       let two : weight w ≡ 1 = eqb-true _ _ b.1 in
@@ -239,7 +239,7 @@ module _ (q m : ℕ) (f : IsField q) where
       let each : (u w : List ℕ) → IsVector q k u → IsVector q k w → P u ≡ true
       → cond {A = ℕ} (P w) 1 0 ≤ cond {A = ℕ} (same u w) 1 0 =
       λ u w hu hw pu. elim (cases_Bool (same u w)) [
-        | inl t ↦ subst (λ (z : ℕ). cond {A = ℕ} (P w) 1 0 ≤ z) (sym (cond-true (same u w) 1 0 t)) (at-most (P w))
+        | inl t ↦ subst (λ z. cond {A = ℕ} (P w) 1 0 ≤ z) (sym (cond-true (same u w) 1 0 t)) (at-most (P w))
         | inr o ↦
             let none : P w ≡ false = false_from_ne_true (P w) (λ pw. no-two u w hu hw pu pw
             (λ e. both_ways (same u w) o (subst (λ z. same u z ≡ true) e (same-self u)))) in
@@ -247,16 +247,17 @@ module _ (q m : ℕ) (f : IsField q) where
             omega arith
       ] in
       let short : (u : List ℕ) → IsVector q k u → P u ≡ true → C ≤ 1 = λ u hu pu.
-      let l : C ≤ sum_by (λ w. cond {A = ℕ} (same u w) 1 0) ps =
-      sum_by-le (λ w. cond {A = ℕ} (P w) 1 0) (λ w. cond {A = ℕ} (same u w) 1 0) ps
-      (recursion_from_All _ ps (all-points q k some
-      (λ w. cond {A = ℕ} (P w) 1 0 ≤ cond {A = ℕ} (same u w) 1 0) (λ w hw. each u w hu hw pu))) in
-      let e = once k u hu in
-      omega arith in
+      omega (
+        arith,
+        sum_by-le (λ w. cond {A = ℕ} (P w) 1 0) (λ w. cond {A = ℕ} (same u w) 1 0) ps
+            (recursion_from_All _ ps (all-points q k some
+            (λ w. cond {A = ℕ} (P w) 1 0 ≤ cond {A = ℕ} (same u w) 1 0) (λ w hw. each u w hu hw pu))),
+        once k u hu,
+      ) in
       elim (all-or (C ≤ 1) (λ u. cond {A = ℕ} (P u) 1 0) ps (recursion_from_All _ ps (all-points q k some
       (λ u. (cond {A = ℕ} (P u) 1 0 ≡ 0) ⊎ (C ≤ 1)) (λ u hu. elim (cases_Bool (P u)) [
         | inl t ↦ inr (short u hu t)
-        | inr o ↦ inl (cond-false (P u) 1 0 o)
+        | inr o ↦ inl (cond-false _ 1 0 o)
       ])))) [
         | inl e ↦ omega arith
         | inr l ↦ omega arith
@@ -270,9 +271,9 @@ module _ (q m : ℕ) (f : IsField q) where
   pub scaling : (c : ℕ) → 0 < c → c < q → IsChange q m (λ v. scale q c v)
   scaling c pos low = record {
     vector = λ v hv. scale-vector q m f c v hv;
-    sums = λ v w hv hw. ext q m f (scale q c (plus q v w)) (plus q (scale q c v) (scale q c w))
-        (scale-vector q m f c (plus q v w) (plus-vector q m f v w hv hw))
-        (plus-vector q m f (scale q c v) (scale q c w) (scale-vector q m f c v hv) (scale-vector q m f c w hw))
+    sums = λ v w hv hw. ext q m f _ _
+        (scale-vector q m f c _ (plus-vector q m f v w hv hw))
+        (plus-vector q m f _ _ (scale-vector q m f c v hv) (scale-vector q m f c w hw))
         (λ p. cc (
           dot-scale q f c (plus q v w) p,
           dot-plus q f v w p,
@@ -301,12 +302,11 @@ module _ (q m : ℕ) (f : IsField q) where
       let n = number q (scale q c v) in
       cc (
         spread-total rows k n,
-        total-scaled q m f (hit k n) (map (λ r. c) rows) rows (are-scalars c pos low rows) (length-map rows (λ r. c)),
+        total-scaled q m f (hit k n) _ rows (are-scalars c pos low rows) (length-map rows (λ r. c)),
         each-scaled c rows,
-        total-changed q m f (hit k n) (λ v. scale q c v) (scaling c pos low) rows hr,
+        total-changed q m f (hit k n) _ (scaling c pos low) rows hr,
         total-same q m f (hit k (number q v)) (λ j s. hit k n j (scale q c s)) rows rows refl
-            (λ u hu. ap (λ b. cond {A = ℕ} (b && eqb (weight u) k) 1 0)
-            (same-number q m f (λ v. scale q c v) (scaling c pos low) v (combination q m u rows) hv
+            (λ u hu. cc (same-number q m f _ (scaling c pos low) v _ hv
             (combination-vector q m f u rows hr))),
         spread-total rows k (number q v),
       )
@@ -324,25 +324,30 @@ module _ (q m : ℕ) (f : IsField q) where
       cc (
         total-same q m f (λ j v. cond (G dn) (hit k n j v) 0)
             (λ j v. cond (eqb n (number q v)) (cond {A = ℕ} (G v && eqb j k) 1 0) 0) rows rows refl
-            (λ u hu. let v : List ℕ = combination q m u rows in let hv : IsVector q m v = combination-vector q m f u
-            rows
-            hr in let b : Bool = eqb (weight u)
+            (λ u hu. let v = combination q m u rows in let b = eqb (weight u)
             k in elim (cases_eq n (number q v)) [
-              | inl e ↦ let is : v ≡ dn = sym (digits-number q m v hv)
-                  ∙ ap (digits q m) (sym e) in cond-true (eqb n (number q v)) (cond {A = ℕ} (G v && b) 1 0) 0
-                  (eq-eqb n (number q v) e) ∙ ap (λ z. cond {A = ℕ} (G z && b) 1 0) is ∙ fold (G dn) b 0 0
-                  ∙ ap (λ t. cond (G dn) (cond {A = ℕ} (t && b) 1 0) 0) (sym (eq-eqb (number q v) n (sym e)))
+              | inl e ↦ let is : v ≡ dn = cc (digits-number q m v (combination-vector q m f u
+                  rows
+                  hr)) in cc (
+                    cond-true _ (cond {A = ℕ} (G v && b) 1 0) 0
+                        (eq-eqb n _ e),
+                    fold (G dn) b 0 0,
+                    eq-eqb _ n (sym e),
+                  )
               | inr
-                  ne ↦ cond-false (eqb n (number q v)) (cond {A = ℕ} (G v && b) 1 0) 0 (ne_eqb n (number q v) ne)
-                  ∙ sym (ap (λ t. cond (G dn) (cond {A = ℕ} (t && b) 1 0) 0) (ne_eqb (number q v) n (λ e. ne (sym e)))
-                  ∙ none-either (G dn))
+                  ne ↦ cc (
+                    cond-false _ (cond {A = ℕ} (G v && b) 1 0) 0 (ne_eqb n _ ne),
+                    ne_eqb (number q v) n
+                        (λ e. ne (sym e)),
+                    none-either (G dn),
+                  )
             ]),
         pick-cond (G dn) (points q (length rows)) (λ u. hit k n (weight u) (combination q m u rows)),
         spread-total rows k n,
       )
 
 pub or-parts : (a b : Bool) → (a || b) ≡ false → (a ≡ false) × (b ≡ false)
-or-parts true b e = absurd (cc e)
+or-parts true b e = cc e
 or-parts false b e = (refl, e)
 
 pub not-more : (n : ℕ) → nat_lt 1 n ≡ false → n ≤ 1
@@ -361,19 +366,17 @@ told true a b = refl
 told false zero zero = refl
 told false zero (suc zero) = refl
 told false zero (suc (suc b)) =
-    let e : nat_lt 1 (0 + suc (suc b)) ≡ true = lt-ltb 1 (0 + suc (suc b)) (omega arith) in
-    let e' : eqb (suc (suc b)) 1 ≡ false = ne_eqb (suc (suc b)) 1 (λ k. omega arith) in
     let e2 : nat_lt (suc (suc b)) 2 ≡ false =
-    false_from_ne_true _ (λ t. let l : suc (suc b) < 2 = ltb-true _ _ t in omega arith) in
-    rw (e, e2) refl
-told false (suc a) zero = rw (ne_eqb (suc a) 0 (λ k. omega arith)) (either (nat_lt 1 (suc a + 0)))
+    false_from_ne_true _
+    (λ t. let l : suc (suc b) < 2 = ltb-true _ _ t in omega (arith, ne_eqb (suc (suc b)) 1 (λ k. omega arith))) in
+    rw (lt-ltb 1 (0 + suc (suc b)) (omega arith), e2)
+told false (suc a) zero = rw (ne_eqb (suc a) 0 (λ k. omega arith)) (either _)
   where
     either : (b : Bool) → cond {A = ℕ} (not b) 0 0 ≡ 0
     either true = refl
     either false = refl
 told false (suc a) (suc b) =
-    let e : nat_lt 1 (suc a + suc b) ≡ true = lt-ltb 1 (suc a + suc b) (omega arith) in
-    rw (e, ne_eqb (suc a) 0 (λ k. omega arith)) refl
+    rw (lt-ltb 1 (suc a + suc b) (omega arith), ne_eqb (suc a) 0 (λ k. omega arith))
 
 module _ (x : Strata) (f : IsField x.q) (room : x.h ≤ x.m) (c s : List ℕ) where
   abbrev C : List (List ℕ)
@@ -386,7 +389,7 @@ module _ (x : Strata) (f : IsField x.q) (room : x.h ≤ x.m) (c s : List ℕ) wh
   hC = rows-vectors x.q x.m f c
 
   hR : AreVectors x.q x.m R
-  hR = rows-vectors x.q x.m f (c ++ s)
+  hR = rows-vectors x.q x.m f _
 
   positive : 0 < x.q
   positive = omega arith
@@ -410,10 +413,10 @@ module _ (x : Strata) (f : IsField x.q) (room : x.h ≤ x.m) (c s : List ℕ) wh
         + total x.q x.m f (λ j v. cond (eqb n (number x.q v)) (mains j v) 0) R
         ≤ cond (L (digits x.q x.m n)) 1 0
     per-sum n low =
-        let d : List ℕ = digits x.q x.m n in
-        let here : number x.q d ≡ n = number-digits x.q x.m n positive low in
-        let one : ℕ = spread x.q x.m R 1 n in
-        let two : ℕ = spread x.q x.m R 2 n in
+        let d = digits x.q x.m n in
+        let here = number-digits x.q x.m n positive low in
+        let one = spread x.q x.m R 1 n in
+        let two = spread x.q x.m R 2 n in
         let t = at-pick x.q x.m f n R hR (λ v. not (U v)) 2 in
         let k = at-pick x.q x.m f n R hR L 1 in
         let most : one ≤ 1 = multiples-once x.q x.m f R hR free n in
@@ -426,8 +429,7 @@ module _ (x : Strata) (f : IsField x.q) (room : x.h ≤ x.m) (c s : List ℕ) wh
                     let g1 : cond {A = ℕ} (L d) 1 0 ≡ 1 = cond-true (L d) 1 0 l in
                     omega arith
                 | inr l ↦
-                    let k1 : cond (L d) one 0 ≡ 0 = cond-false (L d) one 0 l in
-                    omega arith
+                    omega (arith, cond-false (L d) one 0 l)
               ]
           | inr o ↦
               let p = or-parts (in_span x.q x.m (base x) d) (nat_lt 1 (effects_at x.q x.m R d)) o in
@@ -441,15 +443,18 @@ module _ (x : Strata) (f : IsField x.q) (room : x.h ≤ x.m) (c s : List ℕ) wh
                     let g1 : cond {A = ℕ} (L d) 1 0 ≡ 1 = cond-true (L d) 1 0 l in
                     omega arith
                 | inr l ↦
-                    let k1 : cond (L d) one 0 ≡ 0 = cond-false (L d) one 0 l in
+                    let k1 = cond-false _ one 0 l in
                     elim (cases_eq two 0) [
                       | inl z ↦ omega arith
                       | inr nz ↦
                           let less : (k : ℕ) → spread x.q x.m C k n ≤ spread x.q x.m R k n = λ k.
-                          let a = spread-total x.q x.m f C k n in
-                          let b = spread-total x.q x.m f R k n in
-                          let more = total-longer x f (hit x.q x.m f k n) c s in
-                          omega arith in
+                          omega (
+                            arith,
+                            spread-total x.q x.m f C k n,
+                            spread-total x.q x.m f R k n,
+                            total-longer x f
+                                (hit x.q x.m f k n) c s,
+                          ) in
                           let l1 = less 1 in
                           let l2 = less 2 in
                           let none : spread x.q x.m C 1 n ≡ 0 = omega arith in
@@ -458,7 +463,7 @@ module _ (x : Strata) (f : IsField x.q) (room : x.h ≤ x.m) (c s : List ℕ) wh
                           and_from _ _ (ap not p.0)
                           (and_from _ _ (eq-eqb _ _ (cc (here, none)))
                           (lt-ltb _ _ (rw (← here) at low2))) in
-                          absurd (both_ways (L d) l live)
+                          absurd (both_ways _ l live)
                     ]
               ]
         ]
@@ -472,11 +477,12 @@ module _ (x : Strata) (f : IsField x.q) (room : x.h ≤ x.m) (c s : List ℕ) wh
         let e1 = by-number x.q x.m f clears R hR in
         let e2 = by-number x.q x.m f mains R hR in
         let both = sum_by-plus a b ns in
-        let less =
-        sum_by-le (λ n. a n + b n) (λ n. cond (L (digits x.q x.m n)) 1 0) ns
-        (each-range (λ n. a n + b n ≤ cond (L (digits x.q x.m n)) 1 0) 0 (x.q ^ x.m)
-        (λ n low high. per-sum n (omega arith))) in
-        omega arith
+        omega (
+          arith,
+          sum_by-le _ _ ns
+              (each-range (λ n. a n + b n ≤ cond (L (digits x.q x.m n)) 1 0) 0 (x.q ^ x.m)
+              (λ n low high. per-sum n (omega arith))),
+        )
 
   -- the words of two factors are clear or not
   all-words : unclear x (c ++ s) + total x.q x.m f clears R ≡ pairs x.q (length R)
@@ -493,9 +499,9 @@ module _ (x : Strata) (f : IsField x.q) (room : x.h ≤ x.m) (c s : List ℕ) wh
       → in_span x.q x.m (base x) (scale x.q a v) ≡ in_span x.q x.m (base x) v
   span-scaled a v pos low hv =
       let hs = scale-vector x.q x.m f a v hv in
-      bool_same (in_span x.q x.m (base x) (scale x.q a v)) (in_span x.q x.m (base x) v)
-      (λ e. base-in x f room v hv (unscaled x f room a v pos low hv (in-base x f room (scale x.q a v) hs e)))
-      (λ e. base-in x f room (scale x.q a v) hs (short-scale x.q x.h a f v (in-base x f room v hv e)))
+      bool_same _ _
+      (λ e. base-in x f room v hv (unscaled x f room a v pos low hv (in-base x f room _ hs e)))
+      (λ e. base-in x f room _ hs (short-scale x.q x.h a f v (in-base x f room v hv e)))
 
   live-scaled : (a : ℕ) (v : List ℕ) → 0 < a → a < x.q → IsVector x.q x.m v → L (scale x.q a v) ≡ L v
   live-scaled a v pos low hv =
@@ -513,25 +519,22 @@ module _ (x : Strata) (f : IsField x.q) (room : x.h ≤ x.m) (c s : List ℕ) wh
   one-row : (v : List ℕ) → IsVector x.q x.m v
       → (x.q - 1) * cond (L v) 1 0 ≤ added x.q x.m f mains [] v
   one-row v hv =
-      let first : total x.q x.m f mains (v ∷ [])
-      ≡ total x.q x.m f (rest x.q x.m f mains v 0) []
-      + sum_by (λ a. total x.q x.m f (rest x.q x.m f mains v a) []) (range_with_len 1 (x.q - 1)) =
+      let first =
       total-cons x.q x.m f mains v [] ∙ codes-split x.q x.m f (λ a. total x.q x.m f (rest x.q x.m f mains v a) []) in
       let others : sum_by (λ a. total x.q x.m f (rest x.q x.m f mains v a) []) (range_with_len 1 (x.q - 1))
       ≡ (x.q - 1) * cond (L v) 1 0 =
       cc (
         sum_by-same (λ a. total x.q x.m f (rest x.q x.m f mains v a) []) (λ a. cond (L v) 1 0) 1 (x.q - 1)
-            (λ a low high. let pos : 0 < a = omega arith in let top : a < x.q = omega arith in alone
+            (λ a low high. let pos : 0 < a = omega arith in alone
             (rest x.q x.m f mains v a)
-            ∙ ap₂ (λ (b : ℕ) z. cond {A = ℕ} (L z && eqb (b + 0) 1) 1 0) (cond-true (nat_lt 0 a) 1 0 (lt-ltb 0 a pos))
-            (plus-zero x.q x.m f (scale x.q a v) (scale-vector x.q x.m f a v hv))
-            ∙ ap (λ b. cond {A = ℕ} (b && true) 1 0) (live-scaled a v pos top hv) ∙ fold x.q x.m f (L v) true 0 0),
+            ∙ ap₂ (λ b z. cond {A = ℕ} (L z && eqb (b + 0) 1) 1 0) (cond-true _ 1 0 (lt-ltb 0 a pos))
+            (plus-zero x.q x.m f _ (scale-vector x.q x.m f a v hv))
+            ∙ ap (λ b. cond {A = ℕ} (b && true) 1 0) (live-scaled a v pos (omega arith) hv) ∙ fold x.q x.m f (L v) true
+            0 0),
         sum_by-constant (cond {A = ℕ} (L v) 1 0) (range_with_len 1 (x.q - 1)),
         length-range_with_len 1 (x.q - 1),
       ) in
-      let none : total x.q x.m f mains [] ≡ 0 =
-      alone mains ∙ cond-false (L (zeros x.m) && eqb 0 1) 1 0 (never (L (zeros x.m))) in
-      omega arith
+      omega (arith, alone mains ∙ cond-false _ 1 0 (never (L (zeros x.m))))
     where
       never : (b : Bool) → (b && eqb 0 1) ≡ false
       never true = refl
@@ -541,15 +544,14 @@ module _ (x : Strata) (f : IsField x.q) (room : x.h ≤ x.m) (c s : List ℕ) wh
     rows-live : (x.q - 1) * sum_by (λ r. cond {A = ℕ} (L (digits x.q x.m r)) 1 0) xs ≤ total x.q x.m f mains R
     rows-live =
         let X = vectors_of x.q x.m xs in
-        let hX = rows-vectors x.q x.m f xs in
         let more =
-        total-more x.q x.m f mains X [] hX tt in
+        total-more x.q x.m f mains X [] (rows-vectors x.q x.m f xs) tt in
         let whole : total x.q x.m f mains (X ++ []) ≡ total x.q x.m f mains X =
-        ap (total x.q x.m f mains) (append-nil X) in
+        cc (append-nil X) in
         let each =
         sum_by-le _ _ xs (all-rows xs) in
         let mapped =
-        sum_by_map (added x.q x.m f mains []) (λ r. digits x.q x.m r) xs in
+        sum_by_map (added x.q x.m f mains []) (digits x.q x.m) xs in
         let out = times-sum (x.q - 1) (λ r. cond {A = ℕ} (L (digits x.q x.m r)) 1 0) xs in
         let l1 =
         total-longer x f mains xs behind in
@@ -557,24 +559,23 @@ module _ (x : Strata) (f : IsField x.q) (room : x.h ≤ x.m) (c s : List ℕ) wh
         total-longer x f mains (xs ++ behind) c in
         let l3 : total x.q x.m f mains (vectors_of x.q x.m ((xs ++ behind) ++ c)) ≡ total x.q x.m f mains R =
         cc (
-          map-append (λ r. digits x.q x.m r) (xs ++ behind) c,
+          map-append (digits x.q x.m) (xs ++ behind) c,
           total-turned x.q x.m f mains (vectors_of x.q x.m (xs ++ behind)) C,
-          map-append (λ r. digits x.q x.m r) c (xs ++ behind),
+          map-append (digits x.q x.m) c (xs ++ behind),
         ) in
         omega arith
       where
         all-rows : (ys : List ℕ) → AllByRecursion (λ r. (x.q - 1) * cond {A = ℕ} (L (digits x.q x.m r)) 1 0
             ≤ added x.q x.m f mains [] (digits x.q x.m r)) ys
         all-rows [] = tt
-        all-rows (r ∷ ys) = (one-row (digits x.q x.m r) (digits-vector x.q x.m r positive), all-rows ys)
+        all-rows (r ∷ ys) = (one-row _ (digits-vector x.q x.m r positive), all-rows ys)
 
         times-sum : (a : ℕ) (g : ℕ → ℕ) (ys : List ℕ) → sum_by (λ r. a * g r) ys ≡ a * sum_by g ys
         times-sum a g [] = grind arith
         times-sum a g (y ∷ ys) =
             let e = sum_by-cons (λ r. a * g r) y ys in
             let e' = sum_by-cons g y ys in
-            let rest = times-sum a g ys in
-            cc (rest, distributed a (g y) (sum_by g ys))
+            cc (times-sum a g ys, distributed a (g y) (sum_by g ys))
           where
             distributed : (a b c : ℕ) → a * b + a * c ≡ a * (b + c)
             distributed a b c = grind arith
@@ -584,12 +585,11 @@ module _ (x : Strata) (f : IsField x.q) (room : x.h ≤ x.m) (c s : List ℕ) wh
         → pairs x.q (length (c ++ s)) + (x.q - 1) * sum_by (λ r. cond {A = ℕ} (L (digits x.q x.m r)) 1 0) xs
         ≤ unclear x (c ++ s) + live_sums x c
     not-clear free =
-        let a = bounded free in
         let b = all-words in
         let k = rows-live in
         let e : pairs x.q (length R) ≡ pairs x.q (length (c ++ s)) =
-        ap (pairs x.q) (length-map (c ++ s) (λ r. digits x.q x.m r)) in
-        omega arith
+        cc (length-map (c ++ s) (digits x.q x.m)) in
+        omega (arith, bounded free)
 
 -- all words of two factors, over the words alone
 module _ (x : Strata) (f : IsField x.q) where
@@ -624,11 +624,12 @@ module _ (x : Strata) (f : IsField x.q) where
     by-sum n low =
         let d = digits x.q x.m n in
         let here = number-digits x.q x.m n (omega arith) low in
-        let one = spread x.q x.m F 1 (number x.q d) in
-        let two = spread x.q x.m F 2 (number x.q d) in
-        let inside = in_span x.q x.m (base x) d in
         let sum = effects-parts x.q x.m f F d in
-        cc (at-pick x.q x.m f n F hF (λ v. not (V v)) 2, told inside one two)
+        cc (
+          at-pick x.q x.m f n F hF (λ v. not (V v)) 2,
+          told (in_span x.q x.m (base x) d)
+              (spread x.q x.m F 1 (number x.q d)) (spread x.q x.m F 2 (number x.q d)),
+        )
 
     pub clear_by_tallies : count_by (λ r. is_clear_sum x rows (digits x.q x.m r)) (range_with_len 0 (x.q ^ x.m))
         + unclear x rows ≡ pairs x.q (length rows)
@@ -636,16 +637,17 @@ module _ (x : Strata) (f : IsField x.q) where
     clear_by_tallies =
         let ns = range_with_len 0 (x.q ^ x.m) in
         let all = total x.q x.m f (λ j v. cond {A = ℕ} (not (V v) && eqb j 2) 1 0) F in
-        let each : all ≡ count_by (λ r. is_clear_sum x rows (digits x.q x.m r)) ns =
-        by-number x.q x.m f (λ j v. cond {A = ℕ} (not (V v) && eqb j 2) 1 0) F hF
-        ∙ sum_by-same
-        (λ n. total x.q x.m f (λ j v. cond (eqb n (number x.q v)) (cond {A = ℕ} (not (V v) && eqb j 2) 1 0) 0) F)
-        (λ n. cond (is_clear_sum x rows (digits x.q x.m n)) 1 0) 0 (x.q ^ x.m) (λ n low high. by-sum n (omega arith)) in
         let both : unclear x rows + all ≡ pairs x.q (length F) =
         sym (sum_by-plus (λ u. counted x.q x.m f V 2 (weight u) (combination x.q x.m u F))
         (λ u. cond {A = ℕ} (not (V (combination x.q x.m u F)) && eqb (weight u) 2) 1 0) (points x.q (length F)))
         ∙ sum_by-ext _ _ (points x.q (length F)) (λ u. halves (V (combination x.q x.m u F)) (eqb (weight u) 2))
         ∙ pairs-weigh x.q x.m f F in
         let size : pairs x.q (length F) ≡ pairs x.q (length rows) =
-        ap (pairs x.q) (length-map rows (λ r. digits x.q x.m r)) in
-        omega arith
+        cc (length-map rows (digits x.q x.m)) in
+        omega (
+          arith,
+          by-number x.q x.m f (λ j v. cond {A = ℕ} (not (V v) && eqb j 2) 1 0) F hF
+              ∙ sum_by-same
+              (λ n. total x.q x.m f (λ j v. cond (eqb n (number x.q v)) (cond {A = ℕ} (not (V v) && eqb j 2) 1 0) 0) F)
+              (λ n. cond (is_clear_sum x rows (digits x.q x.m n)) 1 0) 0 (x.q ^ x.m) (λ n low high. by-sum n (omega arith)),
+        )

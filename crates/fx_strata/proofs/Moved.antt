@@ -1,6 +1,6 @@
 -- A change of the run indexes that keeps the base takes a design to a canonical one with as many words of each
 -- kind.
-use Rattle.std.proofs.Common.{ℕ, ◌≡◌, ◌<◌, ◌≤◌, ◌+◌, ◌-◌, ◌^◌, zero, suc, Bool, true, false, cond, eqb, ◌&&◌, List}
+use Rattle.std.proofs.Common.{ℕ, ◌≡◌, ◌<◌, ◌≤◌, ◌+◌, ◌-◌, ◌^◌, zero, suc, Bool, true, false, List}
 use Rattle.std.proofs.Common.{[], ◌∷◌, ◌++◌, map, length, take, drop, refl, sym, subst, ◌∙◌, ap, ap₂, arith, inl, inr}
 use Rattle.std.proofs.Common.{◌⊎◌, eq-eqb, length-append, append-nil, append_assoc}
 use Rattle.std.specs.List.{AllByRecursion}
@@ -11,7 +11,7 @@ use Rattle.std.proofs.lemmas.List.{length-map, map-append}
 use Rattle.std.specs.Prelude.{nat_lt, ◌||◌}
 use Rattle.fx_base.proofs.Lists.{each-append}
 use Rattle.fx_designs.specs.Galois.{inv, IsField, number, digits}
-use Rattle.fx_designs.specs.Vectors.{IsVector, scale, zeros, weight, is_zero, combination, vectors_of}
+use Rattle.fx_designs.specs.Vectors.{IsVector, scale, zeros, is_zero, combination, vectors_of}
 use Rattle.fx_designs.specs.Spans.{in_span}
 use Rattle.fx_designs.specs.Problems.{Dimensions}
 use Rattle.fx_laws.specs.Changes.{IsChange, unit, IsShort}
@@ -45,11 +45,9 @@ use Rattle.fx_strata.proofs.Unclear.{near, effects-total, effects-kept, zero-cha
 spans-units : (q m k j : ℕ) (f : IsField q) (bs : List (List ℕ)) → k + j ≤ m → Spans q m k bs
     → Spans q m (k + j) (bs ++ units_from m k j)
 spans-units q m k zero f bs room h =
-    subst (λ n. Spans q m n (bs ++ [])) (let e : k ≡ k + 0 = omega arith in e)
-    (subst (Spans q m k) (sym (append-nil bs)) h)
+    rw (← (let e : k ≡ k + 0 = omega arith in e)) (subst (Spans q m k) (sym (append-nil bs)) h)
 spans-units q m k (suc j) f bs room h =
-    subst (λ n. Spans q m n (bs ++ unit m k ∷ units_from m (suc k) j))
-    (let e : suc k + j ≡ k + suc j = omega arith in e)
+    rw (← (let e : suc k + j ≡ k + suc j = omega arith in e))
     (subst (Spans q m (suc k + j)) (append_assoc bs (unit m k ∷ []) (units_from m (suc k) j))
     (spans-units q m (suc k) j f (bs ++ unit m k ∷ []) (omega arith) (spans-new q m f k bs (omega arith) h)))
 
@@ -70,15 +68,15 @@ module _ (x : Strata) (f : IsField x.q) (room : x.h ≤ x.m) where
   pub base-spans : Spans x.q x.m x.h (base x)
   base-spans =
       subst (Spans x.q x.m x.h) (sym (units-vectors d f 0 x.h (omega arith)))
-      (subst (λ n. Spans x.q x.m n (units_from x.m 0 x.h)) (let e : 0 + x.h ≡ x.h = omega arith in e)
+      (rw (let e : 0 + x.h ≡ x.h = omega arith in e) at
       (spans-units x.q x.m 0 x.h f [] (omega arith) (spans-none x.q x.m f)))
 
   pub in-base : (v : List ℕ) → IsVector x.q x.m v → in_span x.q x.m (base x) v ≡ true → IsShort x.h v
   in-base v hv e =
-      spans-short x.q x.m f x.h (base x) v base-spans (in_span-true x.q x.m f (base x) v base-spans.vectors hv e)
+      spans-short x.q x.m f x.h _ v base-spans (in_span-true x.q x.m f _ v base-spans.vectors hv e)
 
   pub base-in : (v : List ℕ) → IsVector x.q x.m v → IsShort x.h v → in_span x.q x.m (base x) v ≡ true
-  base-in v hv s = in_span-holds x.q x.m f (base x) v (base-spans.all v hv s)
+  base-in v hv s = in_span-holds x.q x.m f _ v (base-spans.all v hv s)
 
   -- what is scaled is short where it was
   pub unscaled : (c : ℕ) (v : List ℕ) → 0 < c → c < x.q → IsVector x.q x.m v → IsShort x.h (scale x.q c v)
@@ -86,7 +84,7 @@ module _ (x : Strata) (f : IsField x.q) (room : x.h ≤ x.m) where
   unscaled c v pos low hv s =
       subst (IsShort x.h)
       (cc (scale-scale x.q f (inv x.q c) c v, f.mul_inv c pos low, scale-one x.q x.m f v hv))
-      (short-scale x.q x.h (inv x.q c) f (scale x.q c v) s)
+      (short-scale x.q x.h (inv x.q c) f _ s)
 
   module _ (by : List ℕ → List ℕ) (change : IsChange x.q x.m by) where
     abbrev pub normed : List (List ℕ) → List (List ℕ)
@@ -100,12 +98,12 @@ module _ (x : Strata) (f : IsField x.q) (room : x.h ≤ x.m) where
     changed-vectors zs hz = map-vectors x.q x.m f by change zs hz
 
     normed-vectors : (zs : List (List ℕ)) → AreVectors x.q x.m zs → AreVectors x.q x.m (normed zs)
-    normed-vectors zs hz = scaled-vectors x.q f x.m (map (normal_factor x.q x.m f) (map by zs)) (map by zs)
+    normed-vectors zs hz = scaled-vectors x.q f x.m _ _
         (changed-vectors zs hz)
 
     alike-normed : (zs : List (List ℕ)) → AreVectors x.q x.m zs → AreAlike x.q x.m f (normed zs) (map by zs)
-    alike-normed zs hz g = total-scaled x.q x.m f g (map (normal_factor x.q x.m f) (map by zs)) (map by zs)
-        (factors-scalars x.q x.m f (map by zs) (changed-vectors zs hz))
+    alike-normed zs hz g = total-scaled x.q x.m f g _ _
+        (factors-scalars x.q x.m f _ (changed-vectors zs hz))
         (length-map (map by zs) (normal_factor x.q x.m f))
 
     -- zero is kept
@@ -114,19 +112,22 @@ module _ (x : Strata) (f : IsField x.q) (room : x.h ≤ x.m) where
 
     free-changed : (zs : List (List ℕ)) → AreVectors x.q x.m zs → IsFree x.q x.m f zs → IsFree x.q x.m f (normed zs)
     free-changed zs hz free = record {
-      one = at 1 ∙ free.one;
-      two = at 2 ∙ free.two;
+      one = cc (at 1);
+      two = cc (at 2);
     }
       where
         at : (k : ℕ) → total x.q x.m f (counted x.q x.m f is_zero k) (normed zs)
             ≡ total x.q x.m f (counted x.q x.m f is_zero k) zs
         at k =
-            alike-normed zs hz (counted x.q x.m f is_zero k)
-            ∙ total-changed x.q x.m f (counted x.q x.m f is_zero k) by change zs hz
-            ∙ total-same x.q x.m f (counted x.q x.m f is_zero k) (λ j v. counted x.q x.m f is_zero k j (by v)) zs zs
-            refl
-            (λ u hu. ap (λ b. cond (b && eqb (weight u) k) 1 0)
-            (zero-kept (combination x.q x.m u zs) (combination-vector x.q x.m f u zs hz)))
+            cc (
+              alike-normed zs hz (counted x.q x.m f is_zero k),
+              total-changed x.q x.m f (counted x.q x.m f is_zero k)
+                  by change zs hz,
+              total-same x.q x.m f (counted x.q x.m f is_zero k)
+                  (λ j v. counted x.q x.m f is_zero k j (by v)) zs zs
+                  refl
+                  (λ u hu. cc (zero-kept _ (combination-vector x.q x.m f u zs hz))),
+            )
 
     -- rows put in order
     module _ (from len : ℕ) (fits : from + len ≤ x.m) (zs : List (List ℕ)) (hz : AreVectors x.q x.m zs)
@@ -135,8 +136,8 @@ module _ (x : Strata) (f : IsField x.q) (room : x.h ≤ x.m) where
       ordered =
           cc (
             s.is,
-            reordered-map (λ n. digits x.q x.m n) s.swaps (nums zs),
-            back x.q x.m f (normed zs) (normed-vectors zs hz),
+            reordered-map (digits x.q x.m) s.swaps (nums zs),
+            back x.q x.m f _ (normed-vectors zs hz),
           )
 
       alike-ordered : AreAlike x.q x.m f (vectors_of x.q x.m (in_order d from len (nums zs))) (map by zs)
@@ -145,11 +146,13 @@ module _ (x : Strata) (f : IsField x.q) (room : x.h ≤ x.m) where
 
       ordered-length : length (in_order d from len (nums zs)) ≡ length zs
       ordered-length =
-          ap (λ (l : List ℕ). length l) (sym s.is) ∙ length-reordered s.swaps (nums zs)
-          ∙ length-map (normed zs) (number x.q)
-          ∙ scaled-length x.q f (map (normal_factor x.q x.m f) (map by zs)) (map by zs)
-          (length-map (map by zs) (normal_factor x.q x.m f))
-          ∙ length-map zs by
+          cc (
+            length-reordered s.swaps (nums zs),
+            length-map (normed zs) (number x.q),
+            scaled-length x.q f _ _
+                (length-map (map by zs) (normal_factor x.q x.m f)),
+            length-map zs by,
+          )
 
     -- a base that the change takes to the first h unit vectors
     module _ (bs : List (List ℕ))
@@ -159,21 +162,20 @@ module _ (x : Strata) (f : IsField x.q) (room : x.h ≤ x.m) where
           → AllByRecursion (λ r. InStage d f x.h (x.m - x.h) fits r) (nums zs)
       high-stage [] hz out = tt
       high-stage (z ∷ zs) hz out =
-          let v : List ℕ = by z in
+          let v = by z in
           let hv = change.vector z hz.0 in
           let c = normal_factor x.q x.m f v in
           let code = (factors-scalars x.q x.m f (v ∷ []) (hv, tt)).0 in
           let hs = scale-vector x.q x.m f c v hv in
-          let top = number-below x.q x.m (scale x.q c v) hs in (
+          let top = number-below x.q x.m _ hs in (
             record {
               low = elim (cases_lt (number x.q (scale x.q c v)) (x.q ^ x.h)) [
                 | inr high ↦ high
-                | inl less ↦ absurd (both_ways (in_span x.q x.m (base x) v) (keeps z hz.0 ∙ out.0)
+                | inl less ↦ absurd (both_ways _ (keeps z hz.0 ∙ out.0)
                     (base-in v hv (unscaled c v code.0 code.1 hv
-                    (number-short x.q x.m x.h f (scale x.q c v) hs less))))
+                    (number-short x.q x.m x.h f _ hs less))))
               ];
-              high = subst (λ n. number x.q (scale x.q c v) < x.q ^ n)
-                  (let e : x.m ≡ x.h + (x.m - x.h) = omega arith in e) top;
+              high = rw (let e : x.m ≡ x.h + (x.m - x.h) = omega arith in e) at top;
             },
             high-stage zs hz.1 out.1,
           )
@@ -184,19 +186,18 @@ module _ (x : Strata) (f : IsField x.q) (room : x.h ≤ x.m) where
           → AllByRecursion (λ r. InStage d f 0 x.h small r) (nums zs)
       low-stage [] hz inside nonzero = tt
       low-stage (z ∷ zs) hz inside nonzero =
-          let v : List ℕ = by z in
+          let v = by z in
           let hv = change.vector z hz.0 in
           let c = normal_factor x.q x.m f v in
           let w = scale x.q c v in
           let hs = scale-vector x.q x.m f c v hv in
           let short =
-          short-scale x.q x.h c f v (in-base v hv (keeps z hz.0 ∙ inside.0)) in
-          let top = short-number x.q x.m x.h f w hs short in
+          short-scale x.q x.h c f v (in-base v hv (cc (keeps z hz.0))) in
           let pos : number x.q w ≡ 0 → ⊥ = λ e. nonzero.0
-          (number-same x.q x.m f w (zeros x.m) hs (zeros-vector x.q x.m f) (e ∙ sym (number-zeros x.q x.m))) in (
+          (number-same x.q x.m f w _ hs (zeros-vector x.q x.m f) (e ∙ sym (number-zeros x.q x.m))) in (
             record {
-              low = (let one = pow-zero x.q in omega arith);
-              high = subst (λ n. number x.q w < x.q ^ n) (let e : x.h ≡ 0 + x.h = omega arith in e) top;
+              low = (omega (arith, pow-zero x.q));
+              high = rw (let e : x.h ≡ 0 + x.h = omega arith in e) at (short-number x.q x.m x.h f w hs short);
             },
             low-stage zs hz.1 inside.1 nonzero.1,
           )
@@ -213,9 +214,9 @@ module _ (x : Strata) (f : IsField x.q) (room : x.h ≤ x.m) where
           (come : (i : ℕ) → x.h ≤ i → i < x.m → IsMember (x.q ^ i) (nums ys)) where
         second-sorted : Sorted d f x.h (x.m - x.h) fits (nums ys)
         second-sorted =
-            sorted d f x.h (x.m - x.h) fits (normed ys) (normed-vectors ys hy)
+            sorted d f x.h _ fits _ (normed-vectors ys hy)
             (free-changed ys hy (free-back x.q x.m f xs ys hx hy free))
-            (each_normal x.q x.m f (map by ys) (changed-vectors ys hy)) (high-stage ys hy outside)
+            (each_normal x.q x.m f _ (changed-vectors ys hy)) (high-stage ys hy outside)
             (λ i low high. come i low (omega arith))
 
         abbrev first : List ℕ
@@ -236,9 +237,9 @@ module _ (x : Strata) (f : IsField x.q) (room : x.h ≤ x.m) where
         first-sorted : First
         first-sorted = elim (cases_eq x.w 0) [
           | inl e ↦
-              let none = empty xs (lx ∙ e) in
+              let none = empty xs (cc) in
               let is =
-              cond-true (eqb x.w 0) [] (in_order d 0 x.h (nums xs)) (eq-eqb x.w 0 e) in
+              cond-true _ [] (in_order d 0 x.h (nums xs)) (eq-eqb x.w 0 e) in
               record {
                 alike = λ g. cc none;
                 len = cc;
@@ -248,14 +249,14 @@ module _ (x : Strata) (f : IsField x.q) (room : x.h ≤ x.m) where
             | inl e ↦ absurd (ne e)
             | inr p ↦
                 let is =
-                cond-false (eqb x.w 0) [] (in_order d 0 x.h (nums xs)) (ne_eqb x.w 0 ne) in
+                cond-false _ [] (in_order d 0 x.h (nums xs)) (ne_eqb x.w 0 ne) in
                 let free' =
                 free-changed xs hx (free-front x.q x.m f xs ys hx hy free) in
                 let s =
-                sorted d f 0 x.h small (normed xs) (normed-vectors xs hx) free'
-                (each_normal x.q x.m f (map by xs) (changed-vectors xs hx))
+                sorted d f 0 x.h small _ (normed-vectors xs hx) free'
+                (each_normal x.q x.m f _ (changed-vectors xs hx))
                 (low-stage xs hx p.0
-                (free-nonzero x.q x.m f (normed xs) (normed-vectors xs hx) (word-free x.q x.m f (normed xs) free')))
+                (free-nonzero x.q x.m f _ (normed-vectors xs hx) (word-free x.q x.m f _ free')))
                 (λ i low high. p.1 i (omega arith)) in
                 record {
                   alike = λ g. cc (alike-ordered 0 x.h small xs hx s g);
@@ -268,14 +269,16 @@ module _ (x : Strata) (f : IsField x.q) (room : x.h ≤ x.m) where
         alike-all : (g : ℕ → List ℕ → ℕ)
             → total x.q x.m f g (vectors_of x.q x.m (first ++ second)) ≡ total x.q x.m f (λ j v. g j (by v)) (xs ++ ys)
         alike-all g =
-            ap (total x.q x.m f g) (map-append (λ n. digits x.q x.m n) first second)
-            ∙ alike-both x.q x.m f (vectors_of x.q x.m first) (vectors_of x.q x.m second) (map by xs) (map by ys)
-            first-sorted.alike (alike-ordered x.h (x.m - x.h) fits ys hy second-sorted) g
-            ∙ ap (total x.q x.m f g) (sym (map-append by xs ys))
-            ∙ total-changed x.q x.m f g by change (xs ++ ys) (each-append (λ r. IsVector x.q x.m r) xs ys hx hy)
+            cc (
+              map-append (digits x.q x.m) first second,
+              alike-both x.q x.m f _ _ _ _
+                  first-sorted.alike (alike-ordered x.h (x.m - x.h) fits ys hy second-sorted) g,
+              map-append by xs ys,
+              total-changed x.q x.m f g by change _ (each-append _ xs ys hx hy),
+            )
 
         second-length : length second ≡ x.n
-        second-length = ordered-length x.h (x.m - x.h) fits ys hy second-sorted ∙ ly
+        second-length = cc (ordered-length x.h (x.m - x.h) fits ys hy second-sorted)
 
         front : take x.w (first ++ second) ≡ first
         front = rw first-sorted.len at (take-append_seam first second)
@@ -286,7 +289,7 @@ module _ (x : Strata) (f : IsField x.q) (room : x.h ≤ x.m) where
         laid : IsLaid x (first ++ second)
         laid = record {
           base = room;
-          len = length-append first second ∙ ap₂ (λ (a b : ℕ). a + b) first-sorted.len second-length;
+          len = cc (length-append first second, first-sorted.len, second-length);
           first = elim (first-sorted.stage) [
             | inl e ↦ inl e
             | inr s ↦ inr (subst (IsStage d 0 x.h) (sym front) s)
@@ -306,7 +309,7 @@ module _ (x : Strata) (f : IsField x.q) (room : x.h ≤ x.m) where
           all-kept : words_in x.q x.m T (vectors_of x.q x.m (first ++ second)) k ≡ words_in x.q x.m S (xs ++ ys) k
           unfolding words_in
           all-kept = alike-all (counted x.q x.m f T k)
-              ∙ counted-kept (xs ++ ys) (each-append (λ r. IsVector x.q x.m r) xs ys hx hy)
+              ∙ counted-kept _ (each-append _ xs ys hx hy)
 
           front-kept : words_in x.q x.m T (take x.w (vectors_of x.q x.m (first ++ second))) k
               ≡ words_in x.q x.m S (take x.w (xs ++ ys)) k
@@ -333,7 +336,7 @@ module _ (x : Strata) (f : IsField x.q) (room : x.h ≤ x.m) where
             all-kept (is_unclear_sum x (base x) rows) (is_unclear_sum x bs (xs ++ ys))
             (λ v hv. ap₂ (λ i n. i || nat_lt 1 n) (keeps v hv)
             (effects-total x.q x.m f rows (by v) ∙ alike-all (near x.q x.m f (by v))
-            ∙ effects-kept x.q x.m f by change v hv (xs ++ ys) (each-append (λ r. IsVector x.q x.m r) xs ys hx hy))) 2
+            ∙ effects-kept x.q x.m f by change v hv _ (each-append _ xs ys hx hy))) 2
 
         none : (k : ℕ) → total x.q x.m f (counted x.q x.m f is_zero k) (xs ++ ys) ≡ 0
             → sums_of x bs (xs ++ ys) false k ≡ 0

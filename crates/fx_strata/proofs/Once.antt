@@ -1,7 +1,7 @@
 -- The named orders compare all words once.
-use Rattle.std.proofs.Common.{ℕ, ◌≡◌, ◌<◌, ◌≤◌, ◌+◌, ◌-◌, ◌*◌, zero, suc, Bool, true, false, cond, eqb, ◌&&◌, List, []}
+use Rattle.std.proofs.Common.{ℕ, ◌≡◌, ◌<◌, ◌≤◌, ◌+◌, ◌-◌, ◌*◌, zero, suc, Bool, true, false, cond, eqb, List, []}
 use Rattle.std.proofs.Common.{◌∷◌, ◌++◌, map, refl, sym, ◌∙◌, ap, arith, inl, inr, ◌⊎◌, eqb-true, eq-eqb}
-use Rattle.std.specs.Prelude.{flat_map, count_by, nat_le, nat_lt}
+use Rattle.std.specs.Prelude.{flat_map, count_by}
 use Rattle.std.specs.List.{sum_by, range_with_len}
 use Rattle.std.proofs.lemmas.Bool.{cases_Bool, cases_eq, cond-true, cond-false, ne_eqb, and_parts, leb-true}
 use Rattle.std.proofs.lemmas.List.Sums.{sum_by-cons, sum_by-append}
@@ -14,18 +14,18 @@ abbrev bit : Bool → ℕ
 bit b = cond b 1 0
 
 same : (a b : ℕ) → a ≡ b → bit (eqb a b) ≡ 1
-same a b e = cond-true (eqb a b) 1 0 (eq-eqb a b e)
+same a b e = cond-true _ 1 0 (eq-eqb a b e)
 
 other : (a b : ℕ) → (a ≡ b → ⊥) → bit (eqb a b) ≡ 0
-other a b ne = cond-false (eqb a b) 1 0 (ne_eqb a b ne)
+other a b ne = cond-false _ 1 0 (ne_eqb a b ne)
 
 -- an entry that is the words of this kind and weight
 is-words : (b : Bool) (k : ℕ) (part : Part) → are_words b k part ≡ true → part ≡ Words b k
-is-words b k Unclear h = absurd (cc h)
-is-words true k (Words true j) h = ap (Words true) (eqb-true j k h)
-is-words true k (Words false j) h = absurd (cc h)
-is-words false k (Words true j) h = absurd (cc h)
-is-words false k (Words false j) h = ap (Words false) (eqb-true j k h)
+is-words b k Unclear h = cc h
+is-words true k (Words true j) h = cc (eqb-true j k h)
+is-words true k (Words false j) h = cc h
+is-words false k (Words true j) h = cc h
+is-words false k (Words false j) h = cc (eqb-true j k h)
 
 -- of entries those that are compared
 module _ (x : Strata) (b : Bool) (k : ℕ) where
@@ -44,7 +44,7 @@ module _ (x : Strata) (b : Bool) (k : ℕ) where
     | inr o ↦ sym (cond-false counts (often []) 0 o)
   ]
   those-compared (part ∷ parts) =
-      let kept : List Part = compared x parts in
+      let kept = compared x parts in
       let rest : often kept ≡ cond counts (often parts) 0 = those-compared parts in
       let all = often-first part parts in
       let more = often-first part kept in
@@ -54,10 +54,10 @@ module _ (x : Strata) (b : Bool) (k : ℕ) where
             let is : is_compared x part ≡ counts = ap (is_compared x) (is-words b k part t) in
             elim (cases_Bool counts) [
               | inl c ↦
-                  let left : often (compared x (part ∷ parts)) ≡ often (part ∷ kept) =
+                  let left =
                   ap often (cond-true (is_compared x part) (part ∷ kept) kept (is ∙ c)) in
-                  let few : cond {A = ℕ} counts (often parts) 0 ≡ often parts = cond-true counts (often parts) 0 c in
-                  let many : cond {A = ℕ} counts (often (part ∷ parts)) 0 ≡ often (part ∷ parts) =
+                  let few = cond-true counts (often parts) 0 c in
+                  let many =
                   cond-true counts (often (part ∷ parts)) 0 c in
                   omega arith
               | inr c ↦
@@ -75,8 +75,8 @@ module _ (x : Strata) (b : Bool) (k : ℕ) where
             let right : cond {A = ℕ} counts (often parts) 0 ≡ cond counts (often (part ∷ parts)) 0 =
             cc same-rest in
             elim (cases_Bool (is_compared x part)) [
-              | inl c ↦ cc (cond-true (is_compared x part) (part ∷ kept) kept c, without, rest, right)
-              | inr c ↦ cc (cond-false (is_compared x part) (part ∷ kept) kept c, rest, right)
+              | inl c ↦ cc (cond-true _ (part ∷ kept) kept c, without, rest, right)
+              | inr c ↦ cc (cond-false _ (part ∷ kept) kept c, rest, right)
             ]
       ]
 
@@ -96,8 +96,7 @@ module _ (g : ℕ → ℕ) (i : ℕ) (is : (k : ℕ) → 0 < k → g k ≡ bit (
       let first = sum_by-cons g a (range_with_len (a + 1) n) in
       let rest = none-past (a + 1) n (omega arith) (omega arith) in
       let here = is a some in
-      let none = other a i (λ e. omega arith) in
-      omega arith
+      omega (arith, other a i (λ e. omega arith))
 
   one-there : (a n : ℕ) → 0 < a → a ≤ i → i < a + n → sum_by g (range_with_len a n) ≡ 1
   one-there a zero some low high = absurd (omega arith)
@@ -107,19 +106,17 @@ module _ (g : ℕ → ℕ) (i : ℕ) (is : (k : ℕ) → 0 < k → g k ≡ bit (
       elim (cases_eq a i) [
         | inl e ↦
             let one = same a i e in
-            let rest = none-past (a + 1) n (omega arith) (omega arith) in
-            omega arith
+            omega (arith, none-past (a + 1) n (omega arith) (omega arith))
         | inr ne ↦
             let none = other a i ne in
-            let rest = one-there (a + 1) n (omega arith) (omega arith) (omega arith) in
-            omega arith
+            omega (arith, one-there (a + 1) n (omega arith) (omega arith) (omega arith))
       ]
 
 -- one place of an entry, or one of two
 one-of-one : (a k j i : ℕ) → (j ≡ i → a ≡ k) → (a ≡ k → j ≡ i) → bit (eqb a k) ≡ bit (eqb j i)
 one-of-one a k j i there back = elim (cases_eq j i) [
-  | inl e ↦ same a k (there e) ∙ sym (same j i e)
-  | inr ne ↦ other a k (λ e. ne (back e)) ∙ sym (other j i ne)
+  | inl e ↦ cc (same a k (there e), same j i e)
+  | inr ne ↦ cc (other a k (λ e. ne (back e)), other j i ne)
 ]
 
 one-of-two : (a b k j i : ℕ) → (j ≡ i → ((a ≡ k) × (b ≡ k → ⊥)) ⊎ ((a ≡ k → ⊥) × (b ≡ k)))
@@ -129,19 +126,13 @@ one-of-two a b k j i there back = elim (cases_eq j i) [
       let one = same j i e in
       elim (there e) [
         | inl p ↦
-            let yes = same a k p.0 in
-            let no = other b k p.1 in
-            omega arith
+            omega (arith, same a k p.0, other b k p.1)
         | inr p ↦
-            let no = other a k p.0 in
-            let yes = same b k p.1 in
-            omega arith
+            omega (arith, other a k p.0, same b k p.1)
       ]
   | inr ne ↦
-      let none = other j i ne in
       let no = other a k (λ e. ne (back (inl e))) in
-      let no' = other b k (λ e. ne (back (inr e))) in
-      omega arith
+      omega (arith, other j i ne, other b k (λ e. ne (back (inr e))))
 ]
 
 halves : (k : ℕ) → (i : ℕ) × ((k ≡ 2 * i) ⊎ (k ≡ 2 * i + 1))
@@ -159,19 +150,18 @@ module _ (x : Strata) where
 
   constant-range : (k : ℕ) → is_compared x (Words false k) ≡ true → (3 ≤ k) × (k ≤ size)
   constant-range k h =
-      let p = and_parts (nat_le 3 k) (nat_le k size) h in
+      let p = and_parts _ _ h in
       (leb-true 3 k p.0, leb-true k size p.1)
 
   confounded-range : (k : ℕ) → is_compared x (Words true k) ≡ true → (2 ≤ k) × (k ≤ size)
   confounded-range k h =
-      let p = and_parts (nat_lt 0 x.h) (nat_le 2 k && nat_le k size) h in
-      let p' = and_parts (nat_le 2 k) (nat_le k size) p.1 in
+      let p' = and_parts _ _ (and_parts _ _ h).1 in
       (leb-true 2 k p'.0, leb-true k size p'.1)
 
   module _ (b : Bool) (k : ℕ) where
     -- over all weights, by the entries of each
     by-weight : (g : ℕ → List Part) → often x b k (flat_map g (weights x)) ≡ sum_by (λ j. often x b k (g j)) (weights x)
-    by-weight g = sum_by_flat_map (λ p. bit (are_words b k p)) g (weights x)
+    by-weight g = sum_by_flat_map (λ p. bit (are_words b k p)) g _
 
     of-map : (h : ℕ → Part) → often x b k (map h (weights x)) ≡ sum_by (λ j. bit (are_words b k (h j))) (weights x)
     of-map h = sum_by_map (λ p. bit (are_words b k p)) h (weights x)
@@ -181,16 +171,12 @@ module _ (x : Strata) where
 
     of-two : (p p' : Part) → often x b k (p ∷ p' ∷ []) ≡ bit (are_words b k p) + bit (are_words b k p')
     of-two p p' =
-        let e = often-first x b k p (p' ∷ []) in
-        let e' = often-first x b k p' [] in
-        omega arith
+        omega (arith, often-first x b k p (p' ∷ []), often-first x b k p' [])
 
     of-three : (p p' p'' : Part) → often x b k (p ∷ p' ∷ p'' ∷ [])
         ≡ bit (are_words b k p) + (bit (are_words b k p') + bit (are_words b k p''))
     of-three p p' p'' =
-        let e = often-first x b k p (p' ∷ p'' ∷ []) in
-        let e' = of-two p' p'' in
-        omega arith
+        omega (arith, often-first x b k p (p' ∷ p'' ∷ []), of-two p' p'')
 
   constant-once : (k : ℕ) → 0 < k → k ≤ size → often x false k (map (Words false) (weights x)) ≡ 1
   constant-once k some low =
@@ -216,15 +202,11 @@ module _ (x : Strata) where
       one false k c =
           let r = constant-range k c in
           let e = of-both false k (map (Words false) (weights x)) (map (Words true) (weights x)) in
-          let yes = constant-once k (let l = r.0 in omega arith) r.1 in
-          let no = no-confounded k in
-          omega arith
+          omega (arith, constant-once k (let l = r.0 in omega arith) r.1, no-confounded k)
       one true k c =
           let r = confounded-range k c in
           let e = of-both true k (map (Words false) (weights x)) (map (Words true) (weights x)) in
-          let yes = confounded-once k (let l = r.0 in omega arith) r.1 in
-          let no = no-constant k (λ j. j) in
-          omega arith
+          omega (arith, confounded-once k (let l = r.0 in omega arith) r.1, no-constant k (λ j. j))
 
   -- entries by weight, of which each has the words of kind b and weight k where its weight is i
   among-weights : (b : Bool) (k i : ℕ) (g : ℕ → List Part) → ((j : ℕ) → 0 < j → often x b k (g j) ≡ bit (eqb j i))
@@ -270,15 +252,14 @@ module _ (x : Strata) where
           let l = r.0 in
           let u = r.1 in
           let h = halves k in
-          let i = h.0 in
           elim (h.1) [
-            | inl e ↦ constant-of-three (λ j. 2 * j - 1) (λ j. 2 * j) k i
-                (λ j pos. one-of-two (2 * j - 1) (2 * j) k j i
+            | inl e ↦ constant-of-three (λ j. 2 * j - 1) (λ j. 2 * j) k h.0
+                (λ j pos. one-of-two _ _ k j h.0
                 (λ z. inr ((λ y. omega arith), omega arith))
                 (λ y. elim y [ inl y' ↦ absurd (omega arith) | inr y' ↦ omega arith ]))
                 (omega arith) (omega arith)
-            | inr e ↦ constant-of-three (λ j. 2 * j - 1) (λ j. 2 * j) k (i + 1)
-                (λ j pos. one-of-two (2 * j - 1) (2 * j) k j (i + 1)
+            | inr e ↦ constant-of-three (λ j. 2 * j - 1) (λ j. 2 * j) k (h.0 + 1)
+                (λ j pos. one-of-two _ _ k j _
                 (λ z. inl (omega arith, (λ y. omega arith)))
                 (λ y. elim y [ inl y' ↦ omega arith | inr y' ↦ absurd (omega arith) ]))
                 (omega arith) (omega arith)
@@ -295,13 +276,12 @@ module _ (x : Strata) where
           let l = r.0 in
           let u = r.1 in
           let h = halves k in
-          let i = h.0 in
-          constant-of-three (λ j. 2 * j - 2) (λ j. 2 * j - 1) k (i + 1)
+          constant-of-three (λ j. 2 * j - 2) (λ j. 2 * j - 1) k (h.0 + 1)
           (λ j pos. elim (h.1) [
-            | inl e ↦ one-of-two (2 * j - 2) (2 * j - 1) k j (i + 1)
+            | inl e ↦ one-of-two _ _ k j _
                 (λ z. inl (omega arith, (λ y. omega arith)))
                 (λ y. elim y [ inl y' ↦ omega arith | inr y' ↦ absurd (omega arith) ])
-            | inr e ↦ one-of-two (2 * j - 2) (2 * j - 1) k j (i + 1)
+            | inr e ↦ one-of-two _ _ k j _
                 (λ z. inr ((λ y. omega arith), omega arith))
                 (λ y. elim y [ inl y' ↦ absurd (omega arith) | inr y' ↦ omega arith ])
           ])
@@ -316,9 +296,7 @@ module _ (x : Strata) where
           let r = confounded-range k c in
           among-weights true k k (λ j. Words false (j + 1) ∷ Words true j ∷ [])
           (λ j pos.
-          let e =
-          of-two true k (Words false (j + 1)) (Words true j) in
-          omega arith)
+          omega (arith, of-two true k (Words false (j + 1)) (Words true j)))
           (let l = r.0 in omega arith) r.1
       one false k c =
           let r = constant-range k c in
@@ -328,9 +306,7 @@ module _ (x : Strata) where
           (λ j pos.
           let e =
           of-two false k (Words false (j + 1)) (Words true j) in
-          let e' =
-          one-of-one (j + 1) k j (k - 1) (λ z. omega arith) (λ z. omega arith) in
-          omega arith)
+          omega (arith, one-of-one (j + 1) k j (k - 1) (λ z. omega arith) (λ z. omega arith)))
           (omega arith) (omega arith)
 
   abbrev after-clear : List Part
@@ -343,18 +319,20 @@ module _ (x : Strata) where
           ≡ bit (are_words b k (Words false 3))
           + (often x b k (map (λ j. Words false (3 + j)) (weights x)) + often x b k (map (Words true) (weights x)))
       parted b k =
-          let e = often-first x b k (Words false 3) (Unclear ∷ after-clear) in
-          let e' =
-          often-first x b k Unclear after-clear in
-          let e'' = of-both b k (map (λ j. Words false (3 + j)) (weights x)) (map (Words true) (weights x)) in
-          omega arith
+          omega (
+            arith,
+            often-first x b k (Words false 3) (Unclear ∷ after-clear),
+            often-first x b k Unclear
+                after-clear,
+            of-both b k (map (λ j. Words false (3 + j)) (weights x)) (map (Words true) (weights x)),
+          )
 
       behind : (k i : ℕ) → k ≡ 3 + i → often x false k (map (λ j. Words false (3 + j)) (weights x))
           ≡ sum_by (λ j. bit (eqb (3 + j) k)) (weights x)
       behind k i e = of-map false k (λ j. Words false (3 + j))
 
       moved : (k i j : ℕ) → k ≡ 3 + i → bit (eqb (3 + j) k) ≡ bit (eqb j i)
-      moved k i j e = one-of-one (3 + j) k j i (λ z. omega arith) (λ z. omega arith)
+      moved k i j e = one-of-one _ k j i (λ z. omega arith) (λ z. omega arith)
 
       one : (b : Bool) (k : ℕ) → is_compared x (Words b k) ≡ true
           → often x b k (Words false 3 ∷ Unclear ∷ after-clear) ≡ 1
@@ -362,13 +340,12 @@ module _ (x : Strata) where
           let r = confounded-range k c in
           let e = parted true k in
           let no = no-constant k (λ j. 3 + j) in
-          let yes = confounded-once k (let l = r.0 in omega arith) r.1 in
-          omega arith
+          omega (arith, confounded-once k (let l = r.0 in omega arith) r.1)
       one false k c =
           let r = constant-range k c in
           let l = r.0 in
           let u = r.1 in
-          let i : ℕ = k - 3 in
+          let i = k - 3 in
           let is : k ≡ 3 + i = omega arith in
           let e = parted false k in
           let no = no-confounded k in
@@ -376,14 +353,18 @@ module _ (x : Strata) where
           elim (cases_eq 3 k) [
             | inl three ↦
                 let yes = same 3 k three in
-                let none = none-past (λ j. bit (eqb (3 + j) k)) i (λ j pos. moved k i j is) 1 size (omega arith)
-                (omega arith) in
-                omega arith
+                omega (
+                  arith,
+                  none-past (λ j. bit (eqb (3 + j) k)) i (λ j pos. moved k i j is) 1 size (omega arith)
+                      (omega arith),
+                )
             | inr more ↦
                 let none = other 3 k more in
-                let yes = one-there (λ j. bit (eqb (3 + j) k)) i (λ j pos. moved k i j is) 1 size (omega arith)
-                (omega arith) (omega arith) in
-                omega arith
+                omega (
+                  arith,
+                  one-there (λ j. bit (eqb (3 + j) k)) i (λ j pos. moved k i j is) 1 size (omega arith)
+                      (omega arith) (omega arith),
+                )
           ]
 
   pub compare_once : CompareOnce x

@@ -1,6 +1,6 @@
 -- Rule matrices without block factors that meet resolution 3 are designs whose base is zero.
 use Rattle.std.proofs.Common.{ℕ, ◌≡◌, ◌<◌, ◌≤◌, ◌+◌, ◌-◌, ◌*◌, ◌/◌, zero, suc, true, false, cond, eqb, ◌&&◌, List, []}
-use Rattle.std.proofs.Common.{◌∷◌, ◌++◌, map, length, take, refl, sym, subst, ◌∙◌, ap, arith, inl, inr, eqb-true}
+use Rattle.std.proofs.Common.{◌∷◌, ◌++◌, map, length, take, refl, sym, ◌∙◌, arith, inl, inr, eqb-true}
 use Rattle.std.proofs.Common.{eq-eqb, append-nil, not}
 use Rattle.std.specs.Prelude.{nat_lt}
 use Rattle.std.specs.List.{range_with_len, sum_by}
@@ -39,14 +39,14 @@ use Rattle.fx_strata.proofs.Runs.{words-are-sums}
 
 -- what is less than a list that begins with 0 begins with 0 too, and goes on with less
 behind-zero : (a : ℕ) (front other : List ℕ) → is_less (a ∷ front) (0 ∷ other) ≡ true → is_less front other ≡ true
-behind-zero a front other h = elim (or_cases (nat_lt a 0) (eqb a 0 && is_less front other) h) [
-  | inl t ↦ absurd (let low = ltb-true a 0 t in omega arith)
-  | inr t ↦ (and_parts (eqb a 0) (is_less front other) t).1
+behind-zero a front other h = elim (or_cases _ _ h) [
+  | inl t ↦ absurd (omega (arith, ltb-true a 0 t))
+  | inr t ↦ (and_parts _ _ t).1
 ]
 
 behind-zeros : (g : ℕ → ℕ) (s : ℕ) (pattern : List ℕ) → is_less (map g (range_with_len 1 s)) (0 ∷ 0 ∷ pattern) ≡ true
     → (n : ℕ) × (s ≡ suc (suc n)) × (is_less (map g (range_with_len 3 n)) pattern ≡ true)
-behind-zeros g zero pattern h = absurd (cc h)
+behind-zeros g zero pattern h = cc h
 behind-zeros g (suc zero) pattern h =
     absurd (let none = behind-zero (g 1) [] (0 ∷ pattern) h in cc none)
 behind-zeros g (suc (suc n)) pattern h =
@@ -66,7 +66,7 @@ module _ (d : Dimensions) where
       let is =
       and_from _ _ (le-leb 3 a low) (le-leb a (0 + d.s) (omega arith)) in
       cc (
-        cond-true (is_compared (ordinary d) (Words false a)) (Words false a ∷ all later) (all later) is,
+        cond-true _ (Words false a ∷ all later) (all later) is,
         all-constant (a + 1) n (omega arith) (omega arith),
       )
 
@@ -78,9 +78,7 @@ module _ (d : Dimensions) where
       → factors_first (ordinary d) ≡ map (Words false) (range_with_len 3 n)
   constant-words n e =
       let size : suc (suc n) ≡ 0 + d.s = omega arith in
-      subst (λ s. all (map (Words false) (range_with_len 1 s) ++ map (Words true) (range_with_len 1 s))
-      ≡ map (Words false) (range_with_len 3 n)) size
-      (cc (
+      rw (← size) (cc (
         filter-append (is_compared (ordinary d)) (map (Words false) (range_with_len 3 n))
             (map (Words true) (range_with_len 1 (suc (suc n)))),
         all-constant 3 n (omega arith) (omega arith),
@@ -105,25 +103,24 @@ module _ (d : Dimensions) (f : IsField d.q) (none : d.t ≡ 0) where
     no-short u hu some low z =
         let ok = (allowed_facts d f (AtResolution 3) factors blocks hm.factor_count hm.block_count).0
         ((met_exactly d f (AtResolution 3) factors blocks hm).0 met) in
-        let hz = zeros-vector d.q d.t f in
-        ok.none u (zeros d.t) hu (rw hm.block_count hz)
+        ok.none u (zeros d.t) hu (rw hm.block_count (zeros-vector d.q d.t f))
         (inl (refl, (some, low)))
         (cc (
           none-combination d.q d.m f d.t blocks hb,
-          plus-zero d.q d.m f (combination d.q d.m u factors) (combination-vector d.q d.m f u factors hf),
+          plus-zero d.q d.m f _ (combination-vector d.q d.m f u factors hf),
         ))
 
     sums-none : (k : ℕ) → 0 < k → k < 3 → words_in d.q d.m is_zero factors k ≡ 0
     unfolding words_in
     sums-none k some low =
         let one : List ℕ → ℕ = λ u. cond (is_zero (combination d.q d.m u factors) && eqb (weight u) k) 1 0 in
-        sum_by-each one (λ u. 0) (points d.q (length factors)) (recursion_from_All _ (points d.q (length factors))
+        sum_by-each one (λ u. 0) (points d.q (length factors)) (recursion_from_All _ _
         (all-points d.q (length factors) (omega arith) (λ u. one u ≡ 0)
         (λ u hu. cc (false_from_ne_true _
-        (λ t. let p = and_parts (is_zero (combination d.q d.m u factors)) (eqb (weight u) k) t in let w : weight u
-        ≡ k = eqb-true (weight u) k p.1 in let hv = combination-vector d.q d.m f u factors hf in no-short u hu
+        (λ t. let p = and_parts (is_zero (combination d.q d.m u factors)) (eqb (weight u) k) t in
+        let w = eqb-true (weight u) k p.1 in no-short u hu
         (omega arith) (omega arith)
-        (zeros_from_weight (combination d.q d.m u factors) d.m hv.len
+        (zeros_from_weight (combination d.q d.m u factors) d.m (combination-vector d.q d.m f u factors hf).len
         (eqb-true (weight (combination d.q d.m u factors)) 0 p.0)))))))
         ∙ sum_by-zero (points d.q (length factors))
 
@@ -142,8 +139,8 @@ module _ (d : Dimensions) (f : IsField d.q) (none : d.t ≡ 0) where
         (λ t. let v : List ℕ = combination d.q d.m u factors in let hv = combination-vector d.q d.m f u factors
         hf in let p = and_parts (is_in_base x [] v) (eqb (weight u) 1) t in let p' = and_parts (not (is_zero v))
         (in_span d.q d.m [] v) p.0 in let s = in_span-true d.q d.m f [] v tt hv p'.1 in let zero : is_zero v
-        ≡ true = ap is_zero (sym s.gives ∙ nothing s.by)
-        ∙ eq-eqb (weight (zeros d.m)) 0 (weight-zeros d.m) in both_ways (is_zero v) (not-true (is_zero v) p'.0)
+        ≡ true = cc (s.gives, nothing s.by, eq-eqb (weight (zeros d.m)) 0 (weight-zeros d.m)) in
+        both_ways (is_zero v) (not-true (is_zero v) p'.0)
         zero)))))
         ∙ sum_by-zero (points d.q (length factors)) in
         omega arith
@@ -168,8 +165,8 @@ module _ (d : Dimensions) (f : IsField d.q) (none : d.t ≡ 0) where
     rows-are =
         cc (
           take-vectors d.q d.m d.s (row_numbers d factors blocks),
-          back d.q d.m f (factors ++ blocks) (each-append (λ r. IsVector d.q d.m r) factors blocks hf hb),
-          subst (λ n. take n (factors ++ blocks) ≡ factors) hm.factor_count (take-append_seam factors blocks),
+          back d.q d.m f _ (each-append _ factors blocks hf hb),
+          rw hm.factor_count at (take-append_seam factors blocks),
         )
 
     abbrev c : ℕ → ℕ
@@ -179,11 +176,11 @@ module _ (d : Dimensions) (f : IsField d.q) (none : d.t ≡ 0) where
         → is_less (map (λ k. c k / (d.q - 1)) (range_with_len a n)) pattern ≡ true
         → is_less (map (part_of (figures_of x [] factors)) (map (Words false) (range_with_len a n)))
         (map (λ z. (d.q - 1) * z) pattern) ≡ true
-    less-key a zero pattern pos h = absurd (cc h)
-    less-key a (suc n) [] pos h = absurd (cc h)
+    less-key a zero pattern pos h = cc h
+    less-key a (suc n) [] pos h = cc h
     less-key a (suc n) (p ∷ pattern) pos h =
-        let m : ℕ = d.q - 1 in
-        let big : 0 < m = omega (arith, f.more_than_one) in
+        let m = d.q - 1 in
+        let big : 0 < m = omega arith in
         let N : ℕ = normal_words d.q d.m factors a in
         let is : c a ≡ m * N = multiples d.q d.m f factors a hf pos in
         let divided : c a / m ≡ N = cc (is, mul-div_cancel_left N big) in
@@ -195,9 +192,9 @@ module _ (d : Dimensions) (f : IsField d.q) (none : d.t ≡ 0) where
               let parts : m * (N + 1) ≡ m * N + m = grind arith in
               or_left _ _ (lt-ltb (c a) (m * p) (omega arith))
           | inr t ↦
-              let q = and_parts (eqb (c a / m) p)
-              (is_less (map (λ k. c k / m) (range_with_len (a + 1) n)) pattern) t in
-              let e : N ≡ p = sym divided ∙ eqb-true (c a / m) p q.0 in
+              let q = and_parts _
+              _ t in
+              let e = sym divided ∙ eqb-true _ p q.0 in
               or_right _ _ (and_from _ _ (eq-eqb (c a) (m * p) (cc (is, e)))
               (less-key (a + 1) n pattern (omega arith) q.1))
         ]

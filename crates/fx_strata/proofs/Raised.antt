@@ -1,18 +1,16 @@
 -- Rows over a base, and how their rank is raised without more words.
-use Rattle.std.proofs.Common.{ℕ, ◌≡◌, ◌<◌, ◌≤◌, ◌+◌, ◌-◌, zero, suc, Bool, true, false, not, cond, eqb, ◌&&◌, List}
-use Rattle.std.proofs.Common.{[], ◌∷◌, ◌++◌, map, length, refl, sym, subst, ◌∙◌, ap, ap₂, arith, inl, inr, ◌⊎◌}
+use Rattle.std.proofs.Common.{ℕ, ◌≡◌, ◌<◌, ◌≤◌, ◌+◌, ◌-◌, zero, suc, Bool, true, false, cond, eqb, ◌&&◌, List}
+use Rattle.std.proofs.Common.{[], ◌∷◌, ◌++◌, map, length, refl, sym, subst, ◌∙◌, ap, arith, inl, inr, ◌⊎◌}
 use Rattle.std.proofs.Common.{eqb-true}
 use Rattle.std.proofs.Common.{eq-eqb, append_assoc, append-nil, le_trans}
 use Rattle.std.specs.List.{AllByRecursion}
-use Rattle.std.specs.Prelude.{nat_lt, ◌||◌}
 use Rattle.std.proofs.lemmas.Bool.{cases_lt, and_parts, false_from_ne_true, or_cases, or_left, or_right, lt-ltb}
 use Rattle.std.proofs.lemmas.Bool.{ltb-true}
 use Rattle.std.proofs.lemmas.List.{length-map, map-append}
 use Rattle.std.proofs.lemmas.List.Elements.{recursion_from_All}
 use Rattle.fx_base.proofs.Lists.{each-append, each-append_parts}
 use Rattle.fx_designs.specs.Galois.{add, mul, neg, number, IsField}
-use Rattle.fx_designs.specs.Vectors.{IsVector, dot, zeros, weight, is_zero, combination}
-use Rattle.fx_designs.specs.Runs.{points}
+use Rattle.fx_designs.specs.Vectors.{IsVector, dot, weight, is_zero, combination}
 use Rattle.fx_designs.specs.Spans.{in_span, rank_of, rank_after}
 use Rattle.fx_laws.specs.Changes.{IsChange, unit, IsShort, IsFormedTo}
 use Rattle.fx_laws.specs.Raises.{RaisesAt, RaisedBy}
@@ -69,14 +67,14 @@ module _ (x : Strata) (f : IsField x.q) where
   -- a change of the run indexes keeps all this
   module _ (a : List ℕ → List ℕ) (change : IsChange x.q x.m a) where
     zero-same : (v : List ℕ) → IsVector x.q x.m v → is_zero (a v) ≡ is_zero v
-    zero-same v hv = bool_same (is_zero (a v)) (is_zero v)
+    zero-same v hv = bool_same _ _
         (λ e. ap is_zero (change.zero_alone v hv
-        (zeros_from_weight (a v) x.m (let h = change.vector v hv in h.len) (eqb-true (weight (a v)) 0 e)))
-        ∙ eq-eqb (weight (zeros x.m)) 0 (weight-zeros x.m))
+        (zeros_from_weight _ x.m (let h = change.vector v hv in h.len) (eqb-true _ 0 e)))
+        ∙ eq-eqb _ 0 (weight-zeros x.m))
         (λ e. cc (
-          zeros_from_weight v x.m hv.len (eqb-true (weight v) 0 e),
+          zeros_from_weight v x.m hv.len (eqb-true _ 0 e),
           change-zeros x.q x.m f a change,
-          eq-eqb (weight (zeros x.m)) 0 (weight-zeros x.m),
+          eq-eqb _ 0 (weight-zeros x.m),
         ))
 
     words-changed : (T S : List ℕ → Bool) → ((v : List ℕ) → IsVector x.q x.m v → T (a v) ≡ S v) → (zs : List (List ℕ))
@@ -93,14 +91,14 @@ module _ (x : Strata) (f : IsField x.q) where
           cc (zero-same v hv, in_span-change x.q x.m f a change bs v rows.bases hv)
 
       all : AreVectors x.q x.m (xs ++ ys)
-      all = each-append (λ r. IsVector x.q x.m r) xs ys rows.firsts rows.others
+      all = each-append _ xs ys rows.firsts rows.others
 
       counts-changed : (b : Bool) (k : ℕ) → counts x (map a bs) (map a xs) (map a ys) b k ≡ counts x bs xs ys b k
       counts-changed false k =
-          cc (map-append a xs ys, words-changed is_zero is_zero zero-same (xs ++ ys) all k)
+          cc (map-append a xs ys, words-changed is_zero is_zero zero-same _ all k)
       counts-changed true k = cc (
         map-append a xs ys,
-        words-changed (is_in_base x (map a bs)) (is_in_base x bs) confounded-same (xs ++ ys) all k,
+        words-changed (is_in_base x (map a bs)) (is_in_base x bs) confounded-same _ all k,
         words-changed (is_in_base x (map a bs)) (is_in_base x bs) confounded-same xs rows.firsts k,
       )
 
@@ -109,8 +107,11 @@ module _ (x : Strata) (f : IsField x.q) where
           cc (
             map-append a xs ys,
             words-changed (is_unclear_sum x (map a bs) (map a (xs ++ ys))) (is_unclear_sum x bs (xs ++ ys))
-                (λ v hv. ap₂ (λ i n. i || nat_lt 1 n) (in_span-change x.q x.m f a change bs v rows.bases hv)
-                (effects-changed x.q x.m f a change v hv (xs ++ ys) all)) (xs ++ ys) all 2,
+                (λ v hv. cc (
+                  in_span-change x.q x.m f a change bs v rows.bases hv,
+                  effects-changed x.q x.m f a change v hv _
+                      all,
+                )) _ all 2,
           )
 
       outside-changed : (vs : List (List ℕ)) → AreVectors x.q x.m vs
@@ -118,7 +119,7 @@ module _ (x : Strata) (f : IsField x.q) where
           → AllByRecursion (λ r. in_span x.q x.m (map a bs) r ≡ false) (map a vs)
       outside-changed [] hv h = tt
       outside-changed (v ∷ vs) hv h =
-          (in_span-change x.q x.m f a change bs v rows.bases hv.0 ∙ h.0, outside-changed vs hv.1 h.1)
+          (cc (in_span-change x.q x.m f a change bs v rows.bases hv.0), outside-changed vs hv.1 h.1)
 
       rows-changed : Rows x (map a bs) (map a xs) (map a ys)
       rows-changed = record {
@@ -126,9 +127,9 @@ module _ (x : Strata) (f : IsField x.q) where
         firsts = map-vectors x.q x.m f a change xs rows.firsts;
         others = map-vectors x.q x.m f a change ys rows.others;
         same = elim (rows.same) [ inl e ↦ inl e | inr e ↦ inr (ap (map a) e) ];
-        first_count = length-map xs a ∙ rows.first_count;
-        other_count = length-map ys a ∙ rows.other_count;
-        height = rank-change x.q x.m f a change [] bs tt rows.bases ∙ rows.height;
+        first_count = cc (length-map xs a);
+        other_count = cc (length-map ys a);
+        height = cc (rank-change x.q x.m f a change [] bs tt rows.bases);
         outside = outside-changed ys rows.others rows.outside;
       }
 
@@ -144,7 +145,7 @@ module _ (x : Strata) (f : IsField x.q) where
     front (u ∷ us) = inl (refl, front us)
 
     all-rows : AreVectors x.q x.m (xs ++ ys)
-    all-rows = each-append (λ r. IsVector x.q x.m r) xs ys rows.firsts rows.others
+    all-rows = each-append _ xs ys rows.firsts rows.others
 
     -- a sum that is 0 at the point was the same before
     old-sum : (u : List ℕ) → IsVector x.q (length (xs ++ ys)) u
@@ -152,19 +153,17 @@ module _ (x : Strata) (f : IsField x.q) where
         → combination x.q x.m u (xs ++ zs) ≡ combination x.q x.m u (xs ++ ys)
     old-sum u hu none =
         let old = combination x.q x.m u (xs ++ ys) in
-        let new = combination x.q x.m u (xs ++ zs) in
-        let sum = raised-sum x.q x.m f v (xs ++ ys) (xs ++ zs) u (front xs) hu in
-        let c = sum.0 in
-        let zero_c : c ≡ 0 =
-        cc (zero-combination x.q x.m f p u (xs ++ ys) zx, f.mul_one c sum.1, zero-add-code x.q f c sum.1, sum.2 p) in
-        ext x.q x.m f new old
-        (combination-vector x.q x.m f u (xs ++ zs)
-        (raised-vectors x.q x.m f v hv (xs ++ ys) (xs ++ zs) (front xs) all-rows))
-        (combination-vector x.q x.m f u (xs ++ ys) all-rows)
+        let sum = raised-sum x.q x.m f v _ _ u (front xs) hu in
+        let zero_c : sum.0 ≡ 0 =
+        cc (zero-combination x.q x.m f p u _ zx, f.mul_one sum.0 sum.1, zero-add-code x.q f sum.0 sum.1, sum.2 p) in
+        ext x.q x.m f (combination x.q x.m u (xs ++ zs)) old
+        (combination-vector x.q x.m f u _
+        (raised-vectors x.q x.m f v hv _ _ (front xs) all-rows))
+        (combination-vector x.q x.m f u _ all-rows)
         (λ p'. cc (sum.2 p', zero-mul x.q f (dot x.q v p'), f.add_zero (dot x.q old p') (dot_code x.q f old p')))
 
     new-rows : AreVectors x.q x.m (xs ++ zs)
-    new-rows = raised-vectors x.q x.m f v hv (xs ++ ys) (xs ++ zs) (front xs) all-rows
+    new-rows = raised-vectors x.q x.m f v hv _ _ (front xs) all-rows
 
     abbrev old-of : List ℕ → List ℕ
     old-of u = combination x.q x.m u (xs ++ ys)
@@ -176,15 +175,15 @@ module _ (x : Strata) (f : IsField x.q) where
     same-before : (u w : List ℕ) → IsVector x.q (length (xs ++ ys)) u → IsVector x.q (length (xs ++ ys)) w
         → new-of w ≡ new-of u → old-of w ≡ old-of u
     same-before u w hu hw same =
-        let su = raised-sum x.q x.m f v (xs ++ ys) (xs ++ zs) u (front xs) hu in
-        let sw = raised-sum x.q x.m f v (xs ++ ys) (xs ++ zs) w (front xs) hw in
+        let su = raised-sum x.q x.m f v _ _ u (front xs) hu in
+        let sw = raised-sum x.q x.m f v _ _ w (front xs) hw in
         let factor : (t : List ℕ) (c : ℕ) → c < x.q
         → dot x.q (new-of t) p ≡ add x.q (dot x.q (old-of t) p) (mul x.q c (dot x.q v p)) → dot x.q (new-of t) p ≡ c =
-        λ t c low is. cc (zero-combination x.q x.m f p t (xs ++ ys) zx, f.mul_one c low, zero-add-code x.q f c low) in
+        λ t c low is. cc (zero-combination x.q x.m f p t _ zx, f.mul_one c low, zero-add-code x.q f c low) in
         let cs : sw.0 ≡ su.0 =
         cc (factor w sw.0 sw.1 (sw.2 p), factor u su.0 su.1 (su.2 p)) in
-        ext x.q x.m f (old-of w) (old-of u) (combination-vector x.q x.m f w (xs ++ ys) all-rows)
-        (combination-vector x.q x.m f u (xs ++ ys) all-rows)
+        ext x.q x.m f _ _ (combination-vector x.q x.m f w _ all-rows)
+        (combination-vector x.q x.m f u _ all-rows)
         (λ p'.
         let a = dot x.q (old-of w) p' in
         let b = dot x.q (old-of u) p' in
@@ -192,7 +191,7 @@ module _ (x : Strata) (f : IsField x.q) where
         let both : add x.q a k ≡ add x.q b k =
         cc (sw.2 p', su.2 p') in
         let back : (c : ℕ) → c < x.q → add x.q k (add x.q (add x.q c k) (mul x.q (neg x.q 1) k)) ≡ add x.q c k =
-        λ c low. add-over x.q f k (add x.q c k) (f.mul_code su.0 (dot x.q v p')) (f.add_code c k) in
+        λ c low. add-over x.q f k _ (f.mul_code su.0 (dot x.q v p')) (f.add_code c k) in
         let alone : (c : ℕ) → c < x.q → add x.q (add x.q c k) (mul x.q (neg x.q 1) k) ≡ c =
         λ c low. cc (
           f.add_assoc c k (mul x.q (neg x.q 1) k),
@@ -210,44 +209,42 @@ module _ (x : Strata) (f : IsField x.q) where
         λ w. cond (eqb (number x.q (new-of w)) (number x.q (new-of u)) && is_effect (weight w)) 1 0 in
         let old : List ℕ → ℕ =
         λ w. cond (eqb (number x.q (old-of w)) (number x.q (old-of u)) && is_effect (weight w)) 1 0 in
-        rw (raised-length x.q x.m f v (xs ++ ys) (xs ++ zs) (front xs))
-        (sum_by-le new old (points x.q n) (recursion_from_All _ (points x.q n)
-        (all-points x.q n (omega (arith, f.more_than_one)) (λ w. new w ≤ old w) (λ w hw.
-        one-less (eqb (number x.q (new-of w)) (number x.q (new-of u)))
-        (eqb (number x.q (old-of w)) (number x.q (old-of u))) (is_effect (weight w))
+        rw (raised-length x.q x.m f v _ _ (front xs))
+        (sum_by-le new old _ (recursion_from_All _ _
+        (all-points x.q n (omega arith) (λ w. new w ≤ old w) (λ w hw.
+        one-less _
+        _ _
         (λ e. eq-eqb _ _ (ap (number x.q) (same-before u w hu hw
-        (number-same x.q x.m f (new-of w) (new-of u) (combination-vector x.q x.m f w (xs ++ zs) new-rows)
-        (combination-vector x.q x.m f u (xs ++ zs) new-rows) (eqb-true _ _ e)))))))))
+        (number-same x.q x.m f _ _ (combination-vector x.q x.m f w _ new-rows)
+        (combination-vector x.q x.m f u _ new-rows) (eqb-true _ _ e)))))))))
 
     fewer-by : (T S : List ℕ → Bool)
         → ((u : List ℕ) → IsVector x.q (length (xs ++ ys)) u → T (new-of u) ≡ true → S (old-of u) ≡ true) → (k : ℕ)
         → words_in x.q x.m T (xs ++ zs) k ≤ words_in x.q x.m S (xs ++ ys) k
     unfolding words_in
     fewer-by T S less k =
-        let some : 0 < x.q = omega arith in
         let n = length (xs ++ ys) in
         let new : List ℕ → ℕ = λ u. cond (T (new-of u) && eqb (weight u) k) 1 0 in
         let old : List ℕ → ℕ = λ u. cond (S (old-of u) && eqb (weight u) k) 1 0 in
-        rw (raised-length x.q x.m f v (xs ++ ys) (xs ++ zs) (front xs))
-        (sum_by-le new old (points x.q n) (recursion_from_All _ (points x.q n)
-        (all-points x.q n some (λ u. new u ≤ old u) (λ u hu.
-        one-less (T (new-of u)) (S (old-of u)) (eqb (weight u) k) (less u hu)))))
+        rw (raised-length x.q x.m f v _ _ (front xs))
+        (sum_by-le new old _ (recursion_from_All _ _
+        (all-points x.q n (omega arith) (λ u. new u ≤ old u) (λ u hu.
+        one-less _ _ _ (less u hu)))))
 
     fewer : (T : List ℕ → Bool) → ((u : List ℕ) → IsVector x.q x.m u → T u ≡ true → dot x.q u p ≡ 0) → (k : ℕ)
         → words_in x.q x.m T (xs ++ zs) k ≤ words_in x.q x.m T (xs ++ ys) k
     unfolding words_in
     fewer T none k =
-        let some : 0 < x.q = omega arith in
         let n = length (xs ++ ys) in
         let new : List ℕ → ℕ = λ u. cond (T (combination x.q x.m u (xs ++ zs)) && eqb (weight u) k) 1 0 in
         let old : List ℕ → ℕ = λ u. cond (T (combination x.q x.m u (xs ++ ys)) && eqb (weight u) k) 1 0 in
-        rw (raised-length x.q x.m f v (xs ++ ys) (xs ++ zs) (front xs))
-        (sum_by-le new old (points x.q n) (recursion_from_All _ (points x.q n)
-        (all-points x.q n some (λ u. new u ≤ old u) (λ u hu.
-        one-less (T (combination x.q x.m u (xs ++ zs))) (T (combination x.q x.m u (xs ++ ys))) (eqb (weight u) k)
-        (λ t. subst (λ z. T z ≡ true) (old-sum u hu (none (combination x.q x.m u (xs ++ zs))
-        (combination-vector x.q x.m f u (xs ++ zs)
-        (raised-vectors x.q x.m f v hv (xs ++ ys) (xs ++ zs) (front xs) all-rows)) t)) t)))))
+        rw (raised-length x.q x.m f v _ _ (front xs))
+        (sum_by-le new old _ (recursion_from_All _ _
+        (all-points x.q n (omega arith) (λ u. new u ≤ old u) (λ u hu.
+        one-less _ _ _
+        (λ t. rw (old-sum u hu (none (combination x.q x.m u (xs ++ zs))
+        (combination-vector x.q x.m f u _
+        (raised-vectors x.q x.m f v hv _ _ (front xs) all-rows)) t)) at t)))))
 
     spanned-none : (u : List ℕ) → IsVector x.q x.m u → in_span x.q x.m bs u ≡ true → dot x.q u p ≡ 0
     spanned-none u hu t =
@@ -256,19 +253,21 @@ module _ (x : Strata) (f : IsField x.q) where
 
     counts-fewer : (b : Bool) (k : ℕ) → counts x bs xs zs b k ≤ counts x bs xs ys b k
     counts-fewer false k = fewer is_zero
-        (λ u hu t. cc (zeros_from_weight u x.m hu.len (eqb-true (weight u) 0 t), dot-zeros x.q f x.m p)) k
+        (λ u hu t. cc (zeros_from_weight u x.m hu.len (eqb-true _ 0 t), dot-zeros x.q f x.m p)) k
     counts-fewer true k =
-        let few = fewer (is_in_base x bs)
-        (λ u hu t. spanned-none u hu (and_parts (not (is_zero u)) (in_span x.q x.m bs u) t).1) k in
-        omega arith
+        omega (
+          arith,
+          fewer (is_in_base x bs)
+              (λ u hu t. spanned-none u hu (and_parts _ _ t).1) k,
+        )
 
     unclear-fewer : unclear_sums x bs (xs ++ zs) ≤ unclear_sums x bs (xs ++ ys)
-    unclear-fewer = fewer-by (is_unclear_sum x bs (xs ++ zs)) (is_unclear_sum x bs (xs ++ ys))
-        (λ u hu t. elim (or_cases (in_span x.q x.m bs (new-of u))
-        (nat_lt 1 (effects_at x.q x.m (xs ++ zs) (new-of u))) t) [
+    unclear-fewer = fewer-by _ _
+        (λ u hu t. elim (or_cases _
+        _ t) [
           | inl i ↦
-              let is = old-sum u hu (spanned-none (new-of u)
-              (combination-vector x.q x.m f u (xs ++ zs) new-rows) i) in
+              let is = old-sum u hu (spanned-none _
+              (combination-vector x.q x.m f u _ new-rows) i) in
               or_left _ _ (rw is at i)
           | inr l ↦
               let more = ltb-true _ _ l in
@@ -288,13 +287,12 @@ module _ (x : Strata) (f : IsField x.q) where
         outside-raised (cs ++ u ∷ []) us ws s.1 hu.1 z.1 out.1,
       )
       | inr s ↦ (
-        false_from_ne_true (in_span x.q x.m bs w) (λ t.
+        false_from_ne_true _ (λ t.
             let hw : IsVector x.q x.m w = subst (IsVector x.q x.m) (sym s.1) (plus-vector x.q x.m f u v hu.0 hv) in
             let at_w : dot x.q w p ≡ 1 =
             ap (λ z. dot x.q z p) s.1 ∙ dot-plus x.q f u v p
             ∙ (rw (z.0, one) (zero-add-code x.q f 1 f.more_than_one)) in
-            let none = spanned-none w hw t in
-            omega arith),
+            omega (arith, spanned-none w hw t)),
         subst (AllByRecursion (λ r. in_span x.q x.m bs r ≡ false)) s.2 out.1,
       )
     ]
@@ -306,10 +304,10 @@ module _ (x : Strata) (f : IsField x.q) where
       others = raised-vectors x.q x.m f v hv ys zs by rows.others;
       same = rows.same;
       first_count = rows.first_count;
-      other_count = raised-length x.q x.m f v ys zs by ∙ rows.other_count;
+      other_count = cc (raised-length x.q x.m f v ys zs by);
       height = rows.height;
       outside = outside-raised bs ys zs at rows.others
-          (each-append_parts (λ r. dot x.q r p ≡ 0) xs ys zx).1 rows.outside;
+          (each-append_parts _ xs ys zx).1 rows.outside;
     }
 
   -- rows of full rank with no more words
@@ -350,15 +348,14 @@ module _ (x : Strata) (f : IsField x.q) where
   step : (bs xs ys : List (List ℕ)) → Rows x bs xs ys → x.m ≤ x.h + x.n
       → (rank_after x.q x.m bs ys + x.h ≡ x.m) ⊎ Step bs xs ys
   step bs xs ys rows many =
-      let hall = each-append (λ r. IsVector x.q x.m r) bs ys rows.bases rows.others in
-      let made = to_form x.q x.m f (bs ++ ys) hall in
-      let a = made.0 in
-      let b1 = map a bs in
-      let x1 = map a xs in
-      let y1 = map a ys in
-      let rows1 = rows-changed a made.1.change bs xs ys rows in
+      let hall = each-append _ bs ys rows.bases rows.others in
+      let made = to_form x.q x.m f _ hall in
+      let b1 = map made.0 bs in
+      let x1 = map made.0 xs in
+      let y1 = map made.0 ys in
+      let rows1 = rows-changed made.0 made.1.change bs xs ys rows in
       let split = formed-append x.m 0 made.1.rank b1 y1
-      (rw (map-append a bs ys) at made.1.formed) in
+      (rw (map-append made.0 bs ys) at made.1.formed) in
       let low =
       rank-formed x.q x.m f 0 split.0 [] b1 rows1.bases (spans-none x.q x.m f) split.1 in
       let height = rows1.height in
@@ -368,27 +365,27 @@ module _ (x : Strata) (f : IsField x.q) where
       let high =
       rank-formed x.q x.m f split.0 made.1.rank b1 y1 rows1.others spans split.2 in
       let kept =
-      rank-change x.q x.m f a made.1.change bs ys rows.bases rows.others in
+      rank-change x.q x.m f made.0 made.1.change bs ys rows.bases rows.others in
       let j = made.1.rank in
-      let most = formed-room x.m 0 j (map a (bs ++ ys)) made.1.formed (omega arith) in
+      let most = formed-room x.m 0 j _ made.1.formed (omega arith) in
       elim (cases_lt j x.m) [
         | inr full ↦ inl (omega arith)
         | inl less ↦
             let p = unit x.m j in
             let hp = unit-vector x.q x.m j f in
-            let up = formed-up x.m split.0 j y1 split.2 in
             let zb =
-            zero-short j b1 rows1.bases (shorter split.0 j b1 up (formed-short x.m 0 split.0 b1 split.1)) in
+            zero-short j b1 rows1.bases
+            (shorter split.0 j b1 (formed-up x.m split.0 j y1 split.2) (formed-short x.m 0 split.0 b1 split.1)) in
             let zy =
             zero-short j y1 rows1.others (formed-short x.m split.0 j y1 split.2) in
             let zx : ZeroAt x.q x.m f p x1 = elim (rows1.same) [
-              | inl e ↦ subst (ZeroAt x.q x.m f p) (sym (empty x1 (rows1.first_count ∙ e))) tt
+              | inl e ↦ subst (ZeroAt x.q x.m f p) (sym (empty x1 (cc))) tt
               | inr e ↦ subst (ZeroAt x.q x.m f p) e zb
             ] in
             let count = rows1.other_count in
             let next = raise_some x.q x.m f p b1 y1 rows1.bases rows1.others (omega arith) in
             let one = unit-unit x.q x.m j f less in
-            let zxy = each-append (λ r. dot x.q r p ≡ 0) x1 y1 zx zy in
+            let zxy = each-append _ x1 y1 zx zy in
             let rise =
             rank-raised x.q x.m f p hp p one b1 y1 next.0 next.1 rows1.bases rows1.others zb zy in
             inr (record {
@@ -399,11 +396,14 @@ module _ (x : Strata) (f : IsField x.q) where
               less = omega arith;
               rise = omega arith;
               fewer = λ b k. le_trans (counts-fewer p p hp one b1 x1 y1 next.0 rows1 zb zxy next.1 b k)
-                  (let e = counts-changed a made.1.change bs xs ys rows b k in omega arith);
+                  (omega (arith, counts-changed made.0 made.1.change bs xs ys rows b k));
               clearer =
-                  (let e = unclear-changed a made.1.change bs xs ys rows in
-                  let l = unclear-fewer p p hp one b1 x1 y1 next.0 rows1 zb zxy next.1 in
-                  omega arith);
+                  (omega (
+                    arith,
+                    unclear-changed made.0 made.1.change bs xs ys rows,
+                    unclear-fewer p p hp one b1 x1 y1
+                        next.0 rows1 zb zxy next.1,
+                  ));
             })
       ]
 

@@ -1,5 +1,5 @@
 -- Every design with a base has a canonical one with as many words of each kind.
-use Rattle.std.proofs.Common.{ℕ, ◌≡◌, ◌<◌, ◌≤◌, ◌+◌, ◌-◌, ◌^◌, suc, Bool, true, false, eqb, List, [], ◌∷◌, ◌++◌, map}
+use Rattle.std.proofs.Common.{ℕ, ◌≡◌, ◌<◌, ◌≤◌, ◌+◌, ◌^◌, suc, Bool, true, false, List, [], ◌∷◌, ◌++◌, map}
 use Rattle.std.proofs.Common.{take, drop, refl, sym, subst, ◌∙◌, ap, arith, inl, inr, ◌⊎◌, eq-eqb, length-drop}
 use Rattle.std.proofs.Common.{take-append-drop, not, eqb-true}
 use Rattle.std.specs.List.{AllByRecursion, sum_by}
@@ -9,7 +9,7 @@ use Rattle.std.proofs.lemmas.List.Elements.{recursion_from_All}
 use Rattle.std.proofs.Math.Seq.{take-append_seam}
 use Rattle.fx_base.proofs.Lists.{each-append, each-take, each-drop}
 use Rattle.fx_designs.specs.Galois.{IsField, number}
-use Rattle.fx_designs.specs.Vectors.{IsVector, is_zero, weight, zeros}
+use Rattle.fx_designs.specs.Vectors.{IsVector, is_zero, zeros}
 use Rattle.fx_designs.specs.Spans.{in_span, rank_after}
 use Rattle.fx_laws.specs.Changes.{IsChange, IsShort, IsFormedTo}
 use Rattle.fx_laws.proofs.Space.{AreVectors}
@@ -29,9 +29,9 @@ use Rattle.fx_strata.specs.Sums.{is_in_base, sums_of, unclear_sums}
 use Rattle.fx_strata.specs.Canonical.{base, words, unclear, IsDesign}
 use Rattle.fx_strata.specs.Images.{first_in_order, second_in_order}
 use Rattle.fx_strata.specs.Laws.{IsNoWorse, CanonicalForEvery, HasFactors}
-use Rattle.fx_strata.proofs.Totals.{total, added, total-more, total-turned, total-adds, counted}
+use Rattle.fx_strata.proofs.Totals.{added, total-more, total-turned, total-adds, counted}
 use Rattle.fx_strata.proofs.Free.{IsFree, each-none, word-free, free-back}
-use Rattle.fx_strata.proofs.Moved.{normed, nums, in-base, base-in, in-order-design, words-kept, unclear-kept}
+use Rattle.fx_strata.proofs.Moved.{nums, in-base, base-in, in-order-design, words-kept, unclear-kept}
 use Rattle.fx_strata.proofs.Runs.{words-are-sums}
 use Rattle.fx_strata.proofs.Unclear.{unclear-are-sums}
 use Rattle.fx_strata.proofs.Raised.{Rows, Full, counts, spans-formed, raised}
@@ -56,7 +56,7 @@ module _ (x : Strata) (f : IsField x.q) (bs xs ys : List (List ℕ)) (rows : Row
     change = made.change
 
     split : (j : ℕ) × IsFormedTo x.m 0 (map a bs) j × IsFormedTo x.m j (map a ys) made.rank
-    split = formed-append x.m 0 made.rank (map a bs) (map a ys)
+    split = formed-append x.m 0 made.rank _ _
         (rw (map-append a bs ys) at made.formed)
 
     hab : AreVectors x.q x.m (map a bs)
@@ -64,29 +64,31 @@ module _ (x : Strata) (f : IsField x.q) (bs xs ys : List (List ℕ)) (rows : Row
 
     height : split.0 ≡ x.h
     height =
-        let e =
-        rank-formed x.q x.m f 0 split.0 [] (map a bs) hab (spans-none x.q x.m f) split.1 in
-        let e' = rank-change x.q x.m f a change [] bs tt rows.bases in
         let e2 = rows.height in
-        omega arith
+        omega (
+          arith,
+          rank-formed x.q x.m f 0 split.0 [] _ hab (spans-none x.q x.m f) split.1,
+          rank-change x.q x.m f a
+              change [] bs tt rows.bases,
+        )
 
     formed-low : IsFormedTo x.m 0 (map a bs) x.h
     formed-low = subst (IsFormedTo x.m 0 (map a bs)) height split.1
 
     spans : Spans x.q x.m x.h (map a bs)
-    spans = spans-formed x.q x.m 0 x.h f [] (map a bs) hab (spans-none x.q x.m f) formed-low
+    spans = spans-formed x.q x.m 0 x.h f [] _ hab (spans-none x.q x.m f) formed-low
 
     formed-part : IsFormedTo x.m x.h (map a ys) made.rank
     formed-part = rw height at split.2
 
     whole : made.rank ≡ x.m
     whole =
-        let e =
-        rank-formed x.q x.m f x.h made.rank (map a bs) (map a ys) (map-vectors x.q x.m f a change ys rows.others) spans
-        formed-part in
-        let e' =
-        rank-change x.q x.m f a change bs ys rows.bases rows.others in
-        omega arith
+        omega (
+          arith,
+          rank-formed x.q x.m f x.h made.rank _ _ (map-vectors x.q x.m f a change ys rows.others) spans
+              formed-part,
+          rank-change x.q x.m f a change bs ys rows.bases rows.others,
+        )
 
     room : x.h ≤ x.m
     room = omega arith
@@ -98,16 +100,16 @@ module _ (x : Strata) (f : IsField x.q) (bs xs ys : List (List ℕ)) (rows : Row
     keeps v hv =
         let hav = change.vector v hv in
         bool_same (in_span x.q x.m (base x) (a v)) (in_span x.q x.m (map a bs) (a v))
-        (λ e. in_span-holds x.q x.m f (map a bs) (a v) (spans.all (a v) hav (in-base x f room (a v) hav e)))
-        (λ e. base-in x f room (a v) hav
-        (spans-short x.q x.m f x.h (map a bs) (a v) spans (in_span-true x.q x.m f (map a bs) (a v) hab hav e)))
+        (λ e. in_span-holds x.q x.m f _ _ (spans.all (a v) hav (in-base x f room _ hav e)))
+        (λ e. base-in x f room _ hav
+        (spans-short x.q x.m f x.h _ _ spans (in_span-true x.q x.m f _ _ hab hav e)))
         ∙ in_span-change x.q x.m f a change bs v rows.bases hv
 
     spanned : (vs : List (List ℕ)) → AreVectors x.q x.m vs → AllByRecursion (λ r. IsShort x.h r) (map a vs)
         → AllByRecursion (λ v. in_span x.q x.m bs v ≡ true) vs
     spanned [] hv h = tt
     spanned (v ∷ vs) hv h = (
-      sym (keeps v hv.0) ∙ base-in x f room (a v) (change.vector v hv.0) h.0,
+      cc (keeps v hv.0, base-in x f room _ (change.vector v hv.0) h.0),
       spanned vs hv.1 h.1,
     )
 
@@ -116,17 +118,17 @@ module _ (x : Strata) (f : IsField x.q) (bs xs ys : List (List ℕ)) (rows : Row
     inside = elim (rows.same) [
       | inl e ↦ inl e
       | inr is ↦
-          let formed : IsFormedTo x.m 0 (map a xs) x.h = rw is at formed-low in
+          let formed = rw is at formed-low in
           inr (
-            spanned xs rows.firsts (formed-short x.m 0 x.h (map a xs) formed),
-            λ i high. formed-member x.q x.m 0 x.h (normed x f room a change xs)
-                (formed-scaled x.q x.m f 0 x.h (map a xs) formed) i (omega arith) high,
+            spanned xs rows.firsts (formed-short x.m 0 x.h _ formed),
+            λ i high. formed-member x.q x.m 0 x.h _
+                (formed-scaled x.q x.m f 0 x.h _ formed) i (omega arith) high,
           )
     ]
 
     come : (i : ℕ) → x.h ≤ i → i < x.m → IsMember (x.q ^ i) (nums x f room a change ys)
-    come i low high = formed-member x.q x.m x.h x.m (normed x f room a change ys)
-        (formed-scaled x.q x.m f x.h x.m (map a ys) formed-high) i low high
+    come i low high = formed-member x.q x.m x.h x.m _
+        (formed-scaled x.q x.m f x.h x.m _ formed-high) i low high
 
     abbrev result : List ℕ
     result = first_in_order x (nums x f room a change xs) ++ second_in_order x (nums x f room a change ys)
@@ -137,7 +139,7 @@ module _ (x : Strata) (f : IsField x.q) (bs xs ys : List (List ℕ)) (rows : Row
 
     as-counts : (b : Bool) (k : ℕ) → sums_of x bs (xs ++ ys) b k ≡ counts x bs xs ys b k
     as-counts false k = refl
-    as-counts true k = cc (subst (λ n. take n (xs ++ ys) ≡ xs) rows.first_count (take-append_seam xs ys))
+    as-counts true k = cc (rw rows.first_count at (take-append_seam xs ys))
 
     result-words : (b : Bool) (k : ℕ) → words x result b k ≡ counts x bs xs ys b k
     result-words b k = words-kept x f room a change bs keeps xs ys rows.first_count rows.other_count rows.firsts
@@ -159,16 +161,16 @@ module _ (x : Strata) (f : IsField x.q) (many : HasFactors x) (blocks factors : 
   bs = base_of x blocks factors
 
   hf : AreVectors x.q x.m factors
-  hf = recursion_from_All (λ r. IsVector x.q x.m r) factors st.factor_rows
+  hf = recursion_from_All _ factors st.factor_rows
 
   hx : AreVectors x.q x.m xs
-  hx = each-take (λ r. IsVector x.q x.m r) x.w factors hf
+  hx = each-take _ x.w factors hf
 
   hb : AreVectors x.q x.m bs
   hb = elim (cases_eq x.w 0) [
-    | inl e ↦ subst (AreVectors x.q x.m) (sym (cond-true (eqb x.w 0) blocks xs (eq-eqb x.w 0 e)))
-        (recursion_from_All (λ r. IsVector x.q x.m r) blocks st.block_rows)
-    | inr ne ↦ subst (AreVectors x.q x.m) (sym (cond-false (eqb x.w 0) blocks xs (ne_eqb x.w 0 ne))) hx
+    | inl e ↦ subst (AreVectors x.q x.m) (sym (cond-true _ blocks xs (eq-eqb x.w 0 e)))
+        (recursion_from_All _ blocks st.block_rows)
+    | inr ne ↦ subst (AreVectors x.q x.m) (sym (cond-false _ blocks xs (ne_eqb x.w 0 ne))) hx
   ]
 
   given-sums : (b : Bool) (k : ℕ) → counts x bs xs ys b k ≡ sums_of x bs factors b k
@@ -176,15 +178,15 @@ module _ (x : Strata) (f : IsField x.q) (many : HasFactors x) (blocks factors : 
   given-sums true k = cc (take-append-drop x.w factors)
 
   given-counts : (b : Bool) (k : ℕ) → counts x bs xs ys b k ≡ words_of x bs factors b k
-  given-counts b k = given-sums b k
-      ∙ sym (words-are-sums x f bs factors hb hf (let e = st.factor_count in omega arith) b k)
+  given-counts b k =
+      cc (given-sums b k, words-are-sums x f bs factors hb hf (let e = st.factor_count in omega arith) b k)
 
   hy : AreVectors x.q x.m ys
-  hy = each-drop (λ r. IsVector x.q x.m r) x.w factors hf
+  hy = each-drop _ x.w factors hf
 
   given-free : IsFree x.q x.m f (xs ++ ys)
   unfolding words_in
-  given-free = record { one = given-counts false 1 ∙ st.none_of_one; two = given-counts false 2 ∙ st.none_of_two }
+  given-free = record { one = cc (given-counts false 1); two = cc (given-counts false 2) }
 
   -- no outside factor's row is in the base
   abbrev g : ℕ → List ℕ → ℕ
@@ -193,24 +195,25 @@ module _ (x : Strata) (f : IsField x.q) (many : HasFactors x) (blocks factors : 
   none-added : sum_by (added x.q x.m f g xs) ys ≡ 0
   unfolding words_in
   none-added =
-      let more =
-      total-more x.q x.m f g ys xs hy hx in
-      let same = total-turned x.q x.m f g xs ys in
-      let none : total x.q x.m f g (xs ++ ys) - total x.q x.m f g xs ≡ 0 = given-counts true 1 ∙ st.none_confounded in
-      omega arith
+      omega (
+        arith,
+        total-more x.q x.m f g ys xs hy hx,
+        total-turned x.q x.m f g xs ys,
+        given-counts true 1 ∙
+            st.none_confounded,
+      )
 
   out : (vs : List (List ℕ)) → AreVectors x.q x.m vs → AllByRecursion (λ v. added x.q x.m f g xs v ≡ 0) vs
       → AllByRecursion (λ v. v ≡ zeros x.m → ⊥) vs → AllByRecursion (λ v. in_span x.q x.m bs v ≡ false) vs
   out [] hv none some = tt
   out (v ∷ vs) hv none some = (
-    false_from_ne_true (in_span x.q x.m bs v) (λ t.
-        let nonzero =
-        false_from_ne_true (is_zero v) (λ z. (let h = hv.0 in
-        some.0 (zeros_from_weight v x.m h.len (eqb-true (weight v) 0 z)))) in
-        let one : g 1 v ≡ 1 = cc (and_from _ _ (ap not nonzero) t) in
-        let adds = total-adds x.q x.m f g v xs hv.0 hx in
+    false_from_ne_true _ (λ t.
+        let one : g 1 v ≡ 1 =
+        cc (and_from _ _
+        (ap not (false_from_ne_true (is_zero v)
+        (λ z. (some.0 (zeros_from_weight v x.m hv.0.len (eqb-true _ 0 z)))))) t) in
         let zero = none.0 in
-        omega arith),
+        omega (arith, total-adds x.q x.m f g v xs hv.0 hx)),
     out vs hv.1 none.1 some.1,
   )
 
@@ -221,12 +224,12 @@ module _ (x : Strata) (f : IsField x.q) (many : HasFactors x) (blocks factors : 
     others = hy;
     same = elim (cases_eq x.w 0) [
       | inl e ↦ inl e
-      | inr ne ↦ inr (cond-false (eqb x.w 0) blocks xs (ne_eqb x.w 0 ne))
+      | inr ne ↦ inr (cond-false _ blocks xs (ne_eqb x.w 0 ne))
     ];
-    first_count = (let e = length-take x.w factors in let e' = st.factor_count in omega arith);
-    other_count = (let e = length-drop x.w factors in let e' = st.factor_count in omega arith);
+    first_count = (let e' = st.factor_count in omega (arith, length-take x.w factors));
+    other_count = (let e' = st.factor_count in omega (arith, length-drop x.w factors));
     height = st.base;
-    outside = out ys hy (each-none (added x.q x.m f g xs) ys none-added)
+    outside = out ys hy (each-none _ ys none-added)
         (free-nonzero x.q x.m f ys hy (word-free x.q x.m f ys (free-back x.q x.m f xs ys hx hy given-free)));
   }
 
@@ -239,27 +242,33 @@ module _ (x : Strata) (f : IsField x.q) (many : HasFactors x) (blocks factors : 
   free : IsFree x.q x.m f (full.firsts ++ full.others)
   unfolding words_in
   free = record {
-    one = (let a = full.fewer false 1 in let b = given-counts false 1 in let c = st.none_of_one in omega arith);
-    two = (let a = full.fewer false 2 in let b = given-counts false 2 in let c = st.none_of_two in omega arith);
+    one = (let c = st.none_of_one in omega (arith, full.fewer false 1, given-counts false 1));
+    two = (let c = st.none_of_two in omega (arith, full.fewer false 2, given-counts false 2));
   }
 
   pub no_worse : (rows : List ℕ) × IsNoWorse x blocks factors rows
   no_worse =
-      let made = to_form x.q x.m f (full.bases ++ full.others)
-      (each-append (λ r. IsVector x.q x.m r) full.bases full.others full.rows.bases full.rows.others) in (
+      let made = to_form x.q x.m f _
+      (each-append _ full.bases full.others full.rows.bases full.rows.others) in (
         result x f full.bases full.firsts full.others full.rows full.rank free made.0 made.1,
         record {
           design = design x f full.bases full.firsts full.others full.rows full.rank free made.0 made.1;
           words = λ b k.
-              (let a = result-words x f full.bases full.firsts full.others full.rows full.rank free made.0 made.1 b k in
-              let c = full.fewer b k in
-              let d = given-counts b k in
-              omega arith);
+              (omega (
+                arith,
+                result-words x f full.bases full.firsts full.others full.rows full.rank free made.0 made.1
+                    b k,
+                full.fewer b k,
+                given-counts b k,
+              ));
           unclear =
-              (let a = result-unclear x f full.bases full.firsts full.others full.rows full.rank free made.0 made.1 in
-              let c = full.clearer in
+              (let c = full.clearer in
               let d = given-unclear in
-              omega arith);
+              omega (
+                arith,
+                result-unclear x f full.bases full.firsts full.others full.rows full.rank free made.0
+                    made.1,
+              ));
         },
       )
 

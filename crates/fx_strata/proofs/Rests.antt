@@ -1,6 +1,6 @@
 -- The rows of a stage that a prefix lacks.
-use Rattle.std.proofs.Common.{ℕ, ◌≡◌, ◌<◌, ◌≤◌, ◌+◌, ◌-◌, ◌^◌, zero, suc, true, cond, eqb, List, [], ◌∷◌, ◌++◌, length}
-use Rattle.std.proofs.Common.{slice_index, refl, sym, subst, ◌∙◌, ap, ap₂, arith, inl, inr, eq-eqb, append_assoc}
+use Rattle.std.proofs.Common.{ℕ, ◌≡◌, ◌<◌, ◌≤◌, ◌+◌, ◌-◌, ◌^◌, zero, suc, cond, eqb, List, [], ◌∷◌, ◌++◌, length}
+use Rattle.std.proofs.Common.{slice_index, refl, subst, ◌∙◌, ap, arith, inl, inr, eq-eqb, append_assoc}
 use Rattle.std.proofs.Common.{length-append}
 use Rattle.std.specs.List.{filter, range_with_len}
 use Rattle.std.proofs.Math.Seq.{get_or-append_seam}
@@ -17,20 +17,19 @@ use Rattle.fx_strata.specs.Stages.{Stage, stage_after, bound, missing}
 -- two ways to part a list
 pub split : {X : Type 0} (xs ys us vs : List X) → xs ++ ys ≡ us ++ vs → length us ≤ length xs
     → (ms : List X) × (xs ≡ us ++ ms) × (vs ≡ ms ++ ys)
-split xs ys [] vs e h = (xs, refl, sym e)
+split xs ys [] vs e h = (xs, refl, cc)
 split [] ys (u ∷ us) vs e h = absurd (omega arith)
 split (x ∷ xs) ys (u ∷ us) vs e h =
     let head : x ≡ u = cc e in
-    let rest : xs ++ ys ≡ us ++ vs = cc e in
-    let r = split xs ys us vs rest (omega arith) in
-    (r.0, ap₂ (λ y l. y ∷ l) head r.1, r.2)
+    let r = split xs ys us vs (cc e) (omega arith) in
+    (r.0, cc, r.2)
 
 module _ (d : Dimensions) (from : ℕ) where
   -- behind some rows that fall come others below the last of them
   later-after : (b : ℕ) (us done xs : List ℕ) (r : ℕ) → AreLater d from b ((r ∷ done) ++ xs)
       → AreLater d from (last_row (us ++ r ∷ done)) xs
   later-after b us [] xs r h =
-      let long : length (us ++ r ∷ []) - 1 ≡ length us + 0 = (let e = length-append us (r ∷ []) in omega arith) in
+      let long : length (us ++ r ∷ []) - 1 ≡ length us + 0 = (omega (arith, length-append us (r ∷ []))) in
       rw (ap (slice_index (us ++ r ∷ [])) (let e : length us + 0 ≡ length us = omega arith in long ∙ e)
       ∙ get_or-append_seam us r [] 0) h.2
   later-after b us (r' ∷ done) xs r h =
@@ -43,18 +42,16 @@ module _ (d : Dimensions) (from : ℕ) where
   fits zero (x ∷ xs) h = absurd (let e = h.1 in omega arith)
   fits (suc n) [] h = omega arith
   fits (suc n) (x ∷ xs) h =
-      let rest = filter (λ r. is_later d from r) (falling n) in
+      let rest = filter (is_later d from) (falling n) in
       elim (cases_eq x n) [
         | inl e ↦
-            let on : is_later d from n ≡ true = rw e at h.0 in
-            let less = fits n xs (rw e at h.2) in
-            rw (cond-true (is_later d from n) (n ∷ rest) rest on) (omega arith)
+            rw (cond-true _ (n ∷ rest) rest (rw e at h.0)) (omega (arith, fits n xs (rw e at h.2)))
         | inr ne ↦
             let low : x < n = (let e = h.1 in omega arith) in
             let less = fits n (x ∷ xs) (h.0, low, h.2) in
             elim (cases_Bool (is_later d from n)) [
-              | inl t ↦ rw (cond-true (is_later d from n) (n ∷ rest) rest t) (omega arith)
-              | inr o ↦ rw (cond-false (is_later d from n) (n ∷ rest) rest o) (omega arith)
+              | inl t ↦ rw (cond-true _ (n ∷ rest) rest t) (omega arith)
+              | inr o ↦ rw (cond-false _ (n ∷ rest) rest o) (omega arith)
             ]
       ]
 
@@ -78,19 +75,19 @@ module _ (x : Strata) where
       (cond (eqb (length c) (st.begin + st.units)) (x.q ^ (st.first_unit + st.units)) (last_row c)) xs
       × (length xs ≡ st.begin + length rows - length c)
   in-stage st pre rows post c s at is stage there few =
-      let us : List ℕ = pre ++ units x.q st.first_unit st.units in
-      let many : length (units x.q st.first_unit st.units) ≡ st.units =
+      let us = pre ++ units x.q st.first_unit st.units in
+      let many =
       length-map (range_with_len st.first_unit st.units) (λ i. x.q ^ i)
       ∙ length-range_with_len st.first_unit st.units in
       let lu : length us ≡ st.begin + st.units =
-      (let e = length-append pre (units x.q st.first_unit st.units) in omega arith) in
+      (omega (arith, length-append pre (units x.q st.first_unit st.units))) in
       let whole : c ++ s ≡ us ++ (stage.others ++ post) =
       cc (
         stage.is,
         append_assoc (units x.q st.first_unit st.units) stage.others post,
         append_assoc pre (units x.q st.first_unit st.units) (stage.others ++ post),
       ) in
-      let one = split c s us (stage.others ++ post) whole (omega arith) in
+      let one = split c s us _ whole (omega arith) in
       let done = one.0 in
       let lr : length rows ≡ st.units + length stage.others =
       cc (stage.is, length-append (units x.q st.first_unit st.units) stage.others) in
@@ -114,12 +111,9 @@ module _ (x : Strata) where
           → AreLater d st.first_unit
           (cond (eqb (length c) (st.begin + st.units)) (x.q ^ (st.first_unit + st.units)) (last_row c)) xs
       below st us [] xs c e lc falls =
-          let same : length c ≡ st.begin + st.units = omega arith in
-          rw (cond-true (eqb (length c) (st.begin + st.units)) (x.q ^ (st.first_unit + st.units)) (last_row c)
-          (eq-eqb (length c) (st.begin + st.units) same)) falls
+          rw (cond-true _ (x.q ^ (st.first_unit + st.units)) (last_row c)
+          (eq-eqb (length c) (st.begin + st.units) (omega arith))) falls
       below st us (r ∷ done) xs c e lc falls =
-          let other : length c ≡ st.begin + st.units → ⊥ = λ k. omega arith in
-          rw (cond-false (eqb (length c) (st.begin + st.units)) (x.q ^ (st.first_unit + st.units)) (last_row c)
-          (ne_eqb (length c) (st.begin + st.units) other))
-          (subst (λ l. AreLater d st.first_unit (last_row l) xs) (sym e)
-          (later-after d st.first_unit (x.q ^ (st.first_unit + st.units)) us done xs r falls))
+          rw (cond-false _ (x.q ^ (st.first_unit + st.units)) (last_row c)
+          (ne_eqb (length c) (st.begin + st.units) (λ k. omega arith)))
+          (rw e (later-after d st.first_unit _ us done xs r falls))

@@ -16,7 +16,6 @@ use Rattle.fx_designs.specs.Runs.{points, levels_at, runs_of, block, is_constant
 use Rattle.fx_designs.specs.Spans.{in_span}
 use Rattle.fx_designs.specs.Patterns.{constant_words}
 use Rattle.fx_laws.specs.Facts.{IsConstant, IsConstantInBlocks}
-use Rattle.fx_laws.specs.Spans.{InSpan}
 use Rattle.fx_laws.proofs.Codes.{number-below}
 use Rattle.fx_laws.proofs.Space.{AreVectors, combination-vector}
 use Rattle.fx_laws.proofs.Shift.{all-points, points-sum}
@@ -58,17 +57,17 @@ module _ (q m : ℕ) (f : IsField q) (factors base : List (List ℕ)) (hf : AreV
   unfolding runs_of
   in-block z past = (
     0,
-    All-from_recursion (λ x. dot q u x ≡ 0) (block q s z runs)
-        (held (λ x. dot q u x ≡ 0) (λ x. eqb (number q (drop s x)) z) runs
-        (each-map (λ x. eqb (number q (drop s x)) z ≡ true → dot q u x ≡ 0) (λ p. levels_at q rows p) (points q m)
-        (recursion_from_All _ (points q m)
+    All-from_recursion _ _
+        (held _ _ runs
+        (each-map (λ x. eqb (number q (drop s x)) z ≡ true → dot q u x ≡ 0) (levels_at q rows) (points q m)
+        (recursion_from_All _ _
         (all-points q m some
         (λ p. eqb (number q (drop s (levels_at q rows p))) z ≡ true → dot q u (levels_at q rows p) ≡ 0)
         (λ p hp e.
         let is : drop s (levels_at q rows p) ≡ levels_at q base p =
         cc (drop-map (λ r. dot q r p) s rows, behind) in
         let low =
-        number-below q (length base) (levels_at q base p) (levels-vector q f base p) in
+        number-below q _ _ (levels-vector q f base p) in
         let same : number q (levels_at q base p) ≡ z = cc (eqb-true _ _ e) in
         absurd (omega arith)))))),
   )
@@ -90,28 +89,28 @@ module _ (q m : ℕ) (f : IsField q) (factors base : List (List ℕ)) (hf : AreV
   pub in-blocks : is_constant_in_blocks q s (q ^ length base) u runs ≡ in_span q m base (combination q m u factors)
   in-blocks =
       let v = combination q m u factors in
-      let hv = combination-vector q m f u factors hf in
       elim (constant_or_balanced q m s f rows u hu (subst (AreVectors q m) (sym front) hf)
       (subst (AreVectors q m) (sym behind) hb)) [
         | inl h ↦
-            let inside =
-            in_span-holds q m f base v
-            (rw front at (subst (λ l. InSpan q m l (combination q m u (take s rows))) behind h.0)) in
-            blocks-each h.1 ∙ sym inside
+            cc (
+              blocks-each h.1,
+              (in_span-holds q m f base v
+                  (rw front at (rw behind at h.0))),
+            )
         | inr h ↦
             bool_same _ _ (λ e. absurd (h.2 (each-block e)))
             (λ e. absurd (h.0 (rw behind
-            (subst (λ l. InSpan q m base (combination q m u l)) (sym front) (in_span-true q m f base v hb hv e)))))
+            (rw front (in_span-true q m f base v hb (combination-vector q m f u factors hf) e)))))
       ]
 
   -- and over all runs where it is zero
   pub over-all : is_constant q u (runs_of q m factors) ≡ is_zero (combination q m u factors)
   over-all =
       let v = combination q m u factors in
-      let hv = combination-vector q m f u factors hf in
       bool_same _ _
-      (λ e. ap is_zero ((zero_sum_decides q m f factors hf u).0 e) ∙ eq-eqb (weight (zeros m)) 0 (weight-zeros m))
-      (λ e. (zero_sum_decides q m f factors hf u).1 (zeros_from_weight v m hv.len (eqb-true (weight v) 0 e)))
+      (λ e. ap is_zero ((zero_sum_decides q m f factors hf u).0 e) ∙ eq-eqb _ 0 (weight-zeros m))
+      (λ e. (zero_sum_decides q m f factors hf u).1
+      (zeros_from_weight v m (combination-vector q m f u factors hf).len (eqb-true _ 0 e)))
 
 module _ (q m : ℕ) (f : IsField q) where
   -- of all vectors only zero is zero
@@ -122,7 +121,7 @@ module _ (q m : ℕ) (f : IsField q) where
       let g : ℕ → ℕ = λ c. sum_by (λ p. cond (is_zero (c ∷ p)) (h (c ∷ p)) 0) (points q n) in
       let first : g 0 ≡ h (0 ∷ zeros n) =
       sum_by-ext _ _ (points q n) (λ p. ap (λ b. cond b (h (0 ∷ p)) 0)
-      (ap (λ (k : ℕ). eqb k 0) (sum_by-cons (λ c. cond (nat_lt 0 c) 1 0) 0 p
+      (ap (λ k. eqb k 0) (sum_by-cons (λ c. cond (nat_lt 0 c) 1 0) 0 p
       ∙ (let e : 0 + weight p ≡ weight p = omega arith in e))))
       ∙ zero-pick n (λ p. h (0 ∷ p)) in
       let others : (c : ℕ) → 1 ≤ c → g c ≡ 0 = λ c some.
@@ -131,7 +130,7 @@ module _ (q m : ℕ) (f : IsField q) where
       points-sum q n (λ u. cond (is_zero u) (h u) 0)
       ∙ ap (λ k. sum_by g (range_with_len 0 k)) (let e : q ≡ suc (q - 1) = omega arith in e)
       ∙ sum_by-cons g 0 (range_with_len 1 (q - 1))
-      ∙ ap₂ (λ (a b : ℕ). a + b) first
+      ∙ ap₂ (λ a b. a + b) first
       (sum_by-same g (λ c. 0) 1 (q - 1) (λ c low high. others c low) ∙ sum_by-zero (range_with_len 1 (q - 1)))
       ∙ (let e : h (0 ∷ zeros n) + 0 ≡ h (0 ∷ zeros n) = omega arith in e)
     where
@@ -139,7 +138,7 @@ module _ (q m : ℕ) (f : IsField q) where
       not-zero c p some =
           let e = sum_by-cons (λ c. cond (nat_lt 0 c) 1 0) c p in
           let bit : cond {A = ℕ} (nat_lt 0 c) 1 0 ≡ 1 = cc (lt-ltb 0 c some) in
-          ne_eqb (weight (c ∷ p)) 0 (λ z. omega arith)
+          ne_eqb _ 0 (λ z. omega arith)
 
   -- the words of the first rows alone
   front-words : (g : ℕ → List ℕ → ℕ) (xs ys : List (List ℕ)) → AreVectors q m ys
@@ -148,7 +147,7 @@ module _ (q m : ℕ) (f : IsField q) where
       ≡ total q m f g xs
   front-words g [] ys hy =
       zero-pick (length ys) (λ u. g (weight u) (combination q m u ys))
-      ∙ ap₂ (λ (j : ℕ) v. g j v) (weight-zeros (length ys)) (none-combination q m f (length ys) ys hy)
+      ∙ ap₂ (λ j v. g j v) (weight-zeros (length ys)) (none-combination q m f (length ys) ys hy)
       ∙ sym (sum_by-cons (λ u. g (weight u) (combination q m u [])) [] []
       ∙ (let e : g 0 (zeros m) + 0 ≡ g 0 (zeros m) = omega arith in e))
   front-words g (x ∷ xs) ys hy =
@@ -183,7 +182,7 @@ turned-and false false = refl
 pub each-point : (q n : ℕ) → 0 < q → (g h : List ℕ → ℕ) → ((u : List ℕ) → IsVector q n u → g u ≡ h u)
     → sum_by g (points q n) ≡ sum_by h (points q n)
 each-point q n positive g h same =
-    sum_by-each g h (points q n) (recursion_from_All _ (points q n) (all-points q n positive (λ u. g u ≡ h u) same))
+    sum_by-each g h _ (recursion_from_All _ _ (all-points q n positive (λ u. g u ≡ h u) same))
 
 module _ (x : Strata) (f : IsField x.q) (base factors : List (List ℕ)) (hb : AreVectors x.q x.m base)
     (hf : AreVectors x.q x.m factors) (enough : x.w ≤ length factors) where

@@ -1,5 +1,5 @@
 -- Short vectors have no higher rank than their length.
-use Rattle.std.proofs.Common.{ℕ, ◌≡◌, ◌<◌, ◌≤◌, ◌+◌, ◌-◌, zero, suc, List, [], ◌∷◌, ◌++◌, map, length, take, refl}
+use Rattle.std.proofs.Common.{ℕ, ◌≡◌, ◌≤◌, ◌+◌, ◌-◌, zero, suc, List, [], ◌∷◌, ◌++◌, map, length, take, refl}
 use Rattle.std.proofs.Common.{sym, ◌∙◌, ap, ap₂, arith, length-append}
 use Rattle.std.specs.List.{AllByRecursion}
 use Rattle.std.proofs.lemmas.List.{length-map, map-append}
@@ -25,7 +25,7 @@ module _ (q h j : ℕ) (f : IsField q) where
       go : (n : ℕ) → plus q (scale q c (zeros n)) (zeros n) ≡ zeros n
       go zero = refl
       go (suc n) =
-          cc (f.mul_zero c, f.add_zero 0 (omega (arith, f.more_than_one)), go n)
+          cc (f.mul_zero c, f.add_zero 0 (omega arith), go n)
 
   lift-sum : (n c : ℕ) (v w : List ℕ) → length v ≡ n → length w ≡ n
       → plus q (scale q c (lift v)) (lift w) ≡ lift (plus q (scale q c v) w)
@@ -52,8 +52,8 @@ module _ (q h j : ℕ) (f : IsField q) where
 
   lift-vector : (n : ℕ) (v : List ℕ) → IsVector q n v → IsVector q (n + j) (lift v)
   lift-vector n v hv = record {
-    len = length-append v (zeros j) ∙ ap₂ (λ (a b : ℕ). a + b) hv.len (let z = zeros-vector q j f in z.len);
-    codes = each-append (λ c. c < q) v (zeros j) hv.codes (let z = zeros-vector q j f in z.codes);
+    len = length-append v (zeros j) ∙ ap₂ (λ a b. a + b) hv.len (let z = zeros-vector q j f in z.len);
+    codes = each-append _ v _ hv.codes (let z = zeros-vector q j f in z.codes);
   }
 
   lift-vectors : (rows : List (List ℕ)) → AreVectors q h rows → AreVectors q (h + j) (map lift rows)
@@ -67,24 +67,23 @@ module _ (q h j : ℕ) (f : IsField q) where
   lift-back zero (a ∷ v) (b ∷ w) e e' is = absurd (omega arith)
   lift-back (suc n) (a ∷ v) (b ∷ w) e e' is =
       let first : a ≡ b = cc is in
-      let rest : lift v ≡ lift w = cc is in
-      ap₂ (λ a l. a ∷ l) first (lift-back n v w (omega arith) (omega arith) rest)
+      cc (lift-back n v w (omega arith) (omega arith) (cc is))
 
   span-same : (bs : List (List ℕ)) (r : List ℕ) → AreVectors q h bs → IsVector q h r
       → in_span q (h + j) (map lift bs) (lift r) ≡ in_span q h bs r
   span-same bs r hb hr = bool_same _ _
-      (λ e. let s = in_span-true q (h + j) f (map lift bs) (lift r) (lift-vectors bs hb) (lift-vector h r hr) e in
+      (λ e. let s = in_span-true q _ f _ _ (lift-vectors bs hb) (lift-vector h r hr) e in
       in_span-holds q h f bs r (record {
         by = s.by;
         vector = rw (length-map bs lift) at s.vector;
-        gives = lift-back h (combination q h s.by bs) r (let v = combination-vector q h f s.by bs hb in v.len) hr.len
+        gives = lift-back h _ r (let v = combination-vector q h f s.by bs hb in v.len) hr.len
             (sym (lift-combination s.by bs hb) ∙ s.gives);
       }))
       (λ e. let s = in_span-true q h f bs r hb hr e in
       in_span-holds q (h + j) f (map lift bs) (lift r) (record {
         by = s.by;
         vector = rw (length-map bs lift) s.vector;
-        gives = lift-combination s.by bs hb ∙ ap lift s.gives;
+        gives = cc (lift-combination s.by bs hb);
       }))
 
   rank-same : (bs rows : List (List ℕ)) → AreVectors q h bs → AreVectors q h rows
@@ -94,7 +93,7 @@ module _ (q h j : ℕ) (f : IsField q) where
       cc (
         span-same bs r hb hr.0,
         map-append lift bs (r ∷ []),
-        rank-same (bs ++ r ∷ []) rows (each-append (λ r. IsVector q h r) bs (r ∷ []) hb (hr.0, tt)) hr.1,
+        rank-same (bs ++ r ∷ []) rows (each-append _ bs _ hb (hr.0, tt)) hr.1,
       )
 
 -- a short vector is its first entries and zeros
@@ -103,26 +102,25 @@ short-is : (q h j : ℕ) (v : List ℕ) → IsVector q (h + j) v → IsShort h v
 short-is q zero j [] hv s =
     (ap zeros (let e : 0 ≡ j = (let l = hv.len in omega arith) in e), record { len = refl; codes = tt })
 short-is q zero j (a ∷ v) hv s = (
-  short-zeros j (a ∷ v) (let l = hv.len in omega arith) s,
+  short-zeros j _ (let l = hv.len in omega arith) s,
   record { len = refl; codes = tt },
 )
 short-is q (suc h) j [] hv s = absurd (let l = hv.len in omega arith)
 short-is q (suc h) j (a ∷ v) hv s =
     let r = short-is q h j v (record { len = (let l = hv.len in omega arith); codes = hv.codes.1 }) s in (
       cc r.0,
-      record { len = (let l = r.1 in let e = l.len in omega arith); codes = (hv.codes.0, (let l = r.1 in l.codes)) },
+      record { len = (let e = r.1.len in omega arith); codes = (hv.codes.0, (r.1.codes)) },
     )
 
 pub rank-short : (q m h : ℕ) (f : IsField q) (rows : List (List ℕ)) → h ≤ m → AreVectors q m rows
     → AllByRecursion (λ r. IsShort h r) rows → rank_of q m rows ≤ h
 rank-short q m h f rows room hr short =
-    let j : ℕ = m - h in
+    let j = m - h in
     let e : h + j ≡ m = omega arith in
-    let hr' : AreVectors q (h + j) rows = rw e hr in
-    let cut = all rows hr' short in
+    let cut = all rows (rw e hr) short in
     let same : rank_of q (h + j) rows ≡ rank_of q h (map (take h) rows) =
-    cc (cut.0, rank-same q h j f [] (map (take h) rows) tt cut.1) in
-    let most = rank-most q h f (map (take h) rows) cut.1 in
+    cc (cut.0, rank-same q h j f [] _ tt cut.1) in
+    let most = rank-most q h f _ cut.1 in
     let last : rank_of q m rows ≡ rank_of q (h + j) rows = cc in
     omega arith
   where
@@ -130,6 +128,6 @@ rank-short q m h f rows room hr short =
         → (rows ≡ map (λ v. v ++ zeros (m - h)) (map (take h) rows)) × AreVectors q h (map (take h) rows)
     all [] hr s = (refl, tt)
     all (r ∷ rows) hr s =
-        let one = short-is q h (m - h) r hr.0 s.0 in
+        let one = short-is q h _ r hr.0 s.0 in
         let more = all rows hr.1 s.1 in
-        (ap₂ (λ a l. a ∷ l) one.0 more.0, (one.1, more.1))
+        (cc, (one.1, more.1))

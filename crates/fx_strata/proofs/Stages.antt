@@ -1,14 +1,14 @@
 -- Rows of a stage put in order: its unit vectors, and the others, which fall.
-use Rattle.std.proofs.Common.{ℕ, ◌≡◌, ◌<◌, ◌≤◌, ◌+◌, ◌^◌, Bool, false, not, eqb, List, [], ◌∷◌, ◌++◌, map}
-use Rattle.std.proofs.Common.{refl, sym, subst, ◌∙◌, ap, arith, inl, inr, ◌⊎◌, eqb-true, eq-eqb}
-use Rattle.std.specs.List.{AllByRecursion, filter, range_with_len}
+use Rattle.std.proofs.Common.{ℕ, ◌≡◌, ◌<◌, ◌≤◌, ◌+◌, ◌^◌, Bool, false, not, List, [], ◌∷◌, ◌++◌, map}
+use Rattle.std.proofs.Common.{refl, sym, subst, ap, arith, inl, inr, ◌⊎◌, eqb-true, eq-eqb}
+use Rattle.std.specs.List.{AllByRecursion, filter}
 use Rattle.std.proofs.Math.Nat.{pow-le-pow_right, pow-suc, one-le-pow, mul-le-mul_left}
 use Rattle.std.proofs.lemmas.Bool.{cases_Bool, cases_lt, cond-true, and_from}
 use Rattle.std.proofs.lemmas.Bool.Decides.{nat_tests}
 use Rattle.std.proofs.lemmas.List.{map-append}
 use Rattle.fx_base.proofs.Lists.{each-append_parts, each-map}
 use Rattle.fx_designs.specs.Galois.{IsField, number, digits}
-use Rattle.fx_designs.specs.Vectors.{IsVector, zeros, vectors_of, is_zero}
+use Rattle.fx_designs.specs.Vectors.{zeros, vectors_of, is_zero}
 use Rattle.fx_designs.specs.Problems.{Dimensions}
 use Rattle.fx_designs.specs.Canonical.{is_unit}
 use Rattle.fx_laws.specs.Facts.{IsNormal}
@@ -41,13 +41,12 @@ module _ (d : Dimensions) (f : IsField d.q) where
       let is = pow-suc d.q i in
       let one = one-le-pow i d.q some in
       let two : 2 ≤ d.q = omega arith in
-      let twice = mul-le-mul_left (d.q ^ i) two in
-      omega arith
+      omega (arith, mul-le-mul_left (d.q ^ i) two)
 
   pub free-reordered : (ks : List ℕ) (vs : List (List ℕ)) → IsFree d.q d.m f vs → IsFree d.q d.m f (reordered ks vs)
   free-reordered ks vs h = record {
-    one = total-reordered d.q d.m f (counted d.q d.m f is_zero 1) ks vs ∙ h.one;
-    two = total-reordered d.q d.m f (counted d.q d.m f is_zero 2) ks vs ∙ h.two;
+    one = cc (total-reordered d.q d.m f (counted d.q d.m f is_zero 1) ks vs);
+    two = cc (total-reordered d.q d.m f (counted d.q d.m f is_zero 2) ks vs);
   }
 
   module _ (from len : ℕ) (room : from + len ≤ d.m) where
@@ -57,19 +56,15 @@ module _ (d : Dimensions) (f : IsField d.q) where
     no-unit r low high none = elim (cases_Bool (is_unit d r)) [
       | inr o ↦ o
       | inl t ↦
-          let found = found_range (λ i. eqb r (d.q ^ i)) 0 d.m t in
-          let i = found.0 in
-          let small : i < d.m = omega arith in
-          let is = eqb-true r (d.q ^ i) found.3 in
-          absurd (elim (cases_lt i from) [
+          let found = found_range _ 0 d.m t in
+          let is = eqb-true r _ found.3 in
+          absurd (elim (cases_lt found.0 from) [
             | inl less ↦
-                let p = pow-less i from less in
-                omega arith
-            | inr past ↦ elim (cases_lt i (from + len)) [
-              | inl inside ↦ none i past inside (sym (cc (digits-unit d.q d.m i f small)))
+                omega (arith, pow-less found.0 from less)
+            | inr past ↦ elim (cases_lt found.0 (from + len)) [
+              | inl inside ↦ none found.0 past inside (sym (cc (digits-unit d.q d.m found.0 f (omega arith))))
               | inr beyond ↦
-                  let p = pow-le-pow_right some beyond in
-                  omega arith
+                  omega (arith, pow-le-pow_right some beyond)
             ]
           ])
     ]
@@ -93,7 +88,7 @@ module _ (d : Dimensions) (f : IsField d.q) where
     kept-all [] h = refl
     kept-all (r ∷ rs) h =
         cc (
-          cond-true (not (is_unit d r)) (r ∷ filter (λ r. not (is_unit d r)) rs) (filter (λ r. not (is_unit d r)) rs)
+          cond-true _ (r ∷ filter (λ r. not (is_unit d r)) rs) (filter (λ r. not (is_unit d r)) rs)
               (ap not h.0),
           kept-all rs h.1,
         )
@@ -108,7 +103,7 @@ module _ (d : Dimensions) (f : IsField d.q) where
     is-later [] bound h out normal falls low under = tt
     is-later (r ∷ rs) bound h out normal falls low under = (
       and_from _ _ (eq-eqb _ _ normal.0)
-          (and_from _ _ (ap not out.0) (let l = h.0.low in grind (arith, nat_tests, l))),
+          (and_from _ _ (ap not out.0) (grind (arith, nat_tests, h.0.low))),
       under.0,
       is-later rs r h.1 out.1 normal.1 falls.1 low.1 (less rs low.1 falls.0),
     )
@@ -132,8 +127,7 @@ module _ (d : Dimensions) (f : IsField d.q) where
         | inl z ↦
             let none : r ≡ 0 =
             cc (number-digits d.q d.m r some low.0, number-zeros d.q d.m) in
-            let one = one-le-pow from d.q some in
-            absurd (omega arith)
+            absurd (omega (arith, one-le-pow from d.q some))
       ],
       normals rs h.1 low.1 n.1,
     )
@@ -143,8 +137,7 @@ module _ (d : Dimensions) (f : IsField d.q) where
     belows [] h = (tt, tt)
     belows (r ∷ rs) h =
         let rest = belows rs h.1 in
-        let wide = pow-le-pow_right some room in
-        ((h.0.high, rest.0), (omega arith, rest.1))
+        ((h.0.high, rest.0), (omega (arith, pow-le-pow_right some room), rest.1))
 
     -- the numbers of rows of the stage in order
     pub record Sorted (nums : List ℕ) : Type 0 where
@@ -163,25 +156,25 @@ module _ (d : Dimensions) (f : IsField d.q) where
       passes r = not (is_unit d r)
 
       pulled : Pulled passes (units d.q from len) nums
-      pulled = pull passes (units d.q from len) nums
-          (each-map (λ x. passes x ≡ false) (λ i. d.q ^ i) (range_with_len from len)
-          (each-range (λ i. passes (d.q ^ i) ≡ false) from len (λ i low high. ap not (is-unit d f i (omega arith)))))
+      pulled = pull passes _ nums
+          (each-map _ _ _
+          (each-range (λ i. passes (d.q ^ i) ≡ false) from len (λ i low high. cc (is-unit d f i (omega arith)))))
           (units-differ d f from len room)
-          (each-map (λ x. IsMember x nums) (λ i. d.q ^ i) (range_with_len from len)
+          (each-map _ _ _
           (each-range (λ i. IsMember (d.q ^ i) nums) from len come))
 
       rest-in : AllByRecursion (λ r. InStage r) pulled.rest
       rest-in = (each-append_parts (λ r. InStage r) (units d.q from len) pulled.rest
           (subst (AllByRecursion (λ r. InStage r)) pulled.is
-          (each-reordered (λ r. InStage r) pulled.swaps nums stage))).1
+          (each-reordered _ pulled.swaps nums stage))).1
 
       parts : reordered pulled.swaps vs ≡ units_from d.m from len ++ vectors_of d.q d.m pulled.rest
       parts =
           cc (
             back d.q d.m f vs hv,
-            reordered-map (λ n. digits d.q d.m n) pulled.swaps nums,
+            reordered-map (digits d.q d.m) pulled.swaps nums,
             pulled.is,
-            map-append (λ n. digits d.q d.m n) (units d.q from len) pulled.rest,
+            map-append (digits d.q d.m) (units d.q from len) pulled.rest,
             units-vectors d f from len room,
           )
 
@@ -189,16 +182,16 @@ module _ (d : Dimensions) (f : IsField d.q) where
       parts-free = subst (IsFree d.q d.m f) parts (free-reordered pulled.swaps vs free)
 
       parts-vectors : AreVectors d.q d.m (units_from d.m from len ++ vectors_of d.q d.m pulled.rest)
-      parts-vectors = subst (AreVectors d.q d.m) parts (each-reordered (λ r. IsVector d.q d.m r) pulled.swaps vs hv)
+      parts-vectors = subst (AreVectors d.q d.m) parts (each-reordered _ pulled.swaps vs hv)
 
       rest-out : AllByRecursion (λ r. is_unit d r ≡ false) pulled.rest
       rest-out = none-units pulled.rest rest-in
-          (free-units d.q d.m f from len (vectors_of d.q d.m pulled.rest) parts-vectors
-          (word-free d.q d.m f (units_from d.m from len ++ vectors_of d.q d.m pulled.rest) parts-free)).1
+          (free-units d.q d.m f from len _ parts-vectors
+          (word-free d.q d.m f _ parts-free)).1
 
       rest-free : IsFree d.q d.m f (vectors_of d.q d.m pulled.rest)
-      rest-free = free-back d.q d.m f (units_from d.m from len) (vectors_of d.q d.m pulled.rest)
-          (each-append_parts (λ r. IsVector d.q d.m r) (units_from d.m from len) (vectors_of d.q d.m pulled.rest)
+      rest-free = free-back d.q d.m f _ _
+          (each-append_parts _ _ _
           parts-vectors).0
           (rows-vectors d.q d.m f pulled.rest) parts-free
 
@@ -207,7 +200,7 @@ module _ (d : Dimensions) (f : IsField d.q) where
           (each-append_parts (λ v. (v ≡ zeros d.m) ⊎ IsNormal v) (units_from d.m from len)
           (vectors_of d.q d.m pulled.rest)
           (subst (AllByRecursion (λ v. (v ≡ zeros d.m) ⊎ IsNormal v)) parts
-          (each-reordered (λ v. (v ≡ zeros d.m) ⊎ IsNormal v) pulled.swaps vs normal))).1
+          (each-reordered _ pulled.swaps vs normal))).1
 
       abbrev others : List ℕ
       others = falling_order pulled.rest
@@ -222,24 +215,24 @@ module _ (d : Dimensions) (f : IsField d.q) where
       others-free =
           let s = order_by_swaps pulled.rest in
           subst (IsFree d.q d.m f)
-          (cc (reordered-map (λ n. digits d.q d.m n) s.0 pulled.rest, s.1))
-          (free-reordered s.0 (vectors_of d.q d.m pulled.rest) rest-free)
+          (cc (reordered-map (digits d.q d.m) s.0 pulled.rest, s.1))
+          (free-reordered s.0 _ rest-free)
 
       others-fall : FallsStrictly d.q (vectors_of d.q d.m others)
-      others-fall = free-strict d.q d.m f (vectors_of d.q d.m others) (rows-vectors d.q d.m f others)
-          (word-free d.q d.m f (vectors_of d.q d.m others) others-free)
-          (falls-weakly d f others (in-order (λ r. r < d.q ^ d.m) (belows pulled.rest rest-in).1)
+      others-fall = free-strict d.q d.m f _ (rows-vectors d.q d.m f others)
+          (word-free d.q d.m f _ others-free)
+          (falls-weakly d f others (in-order _ (belows pulled.rest rest-in).1)
           (order-falls pulled.rest))
 
       others-later : AreLater d from (d.q ^ (from + len)) others
-      others-later = is-later others (d.q ^ (from + len)) (in-order (λ r. InStage r) rest-in)
-          (in-order (λ r. is_unit d r ≡ false) rest-out) (in-order (λ r. IsNormal (digits d.q d.m r)) rest-normal)
+      others-later = is-later others _ (in-order _ rest-in)
+          (in-order _ rest-out) (in-order _ rest-normal)
           others-fall
-          (in-order (λ r. r < d.q ^ d.m) (belows pulled.rest rest-in).1)
-          (in-order (λ r. r < d.q ^ (from + len)) (belows pulled.rest rest-in).0)
+          (in-order _ (belows pulled.rest rest-in).1)
+          (in-order _ (belows pulled.rest rest-in).0)
 
       same : filter passes nums ≡ pulled.rest
-      same = sym pulled.kept ∙ kept-all pulled.rest rest-out
+      same = cc (pulled.kept, kept-all pulled.rest rest-out)
 
       pub sorted : Sorted nums
       sorted =
@@ -247,8 +240,6 @@ module _ (d : Dimensions) (f : IsField d.q) where
           let b = reorder_behind (units d.q from len) pulled.rest s.0 in
           record {
             swaps = pulled.swaps ++ b.0;
-            is = reordered-append pulled.swaps b.0 nums ∙ ap (reordered b.0) pulled.is ∙ b.1
-                ∙ ap (λ z. units d.q from len ++ z) s.1
-                ∙ ap (λ z. units d.q from len ++ falling_order z) (sym same);
-            later = subst (λ z. AreLater d from (d.q ^ (from + len)) (falling_order z)) (sym same) others-later;
+            is = cc (reordered-append pulled.swaps b.0 nums, pulled.is, same);
+            later = rw same others-later;
           }

@@ -43,20 +43,17 @@ module _ (x : Strata) where
     at-unit : (k : ℕ) (r : ℕ) → k < st.units → may_follow x (pre ++ units x.q st.first_unit k) r ≡ true
         → r ≡ x.q ^ (st.first_unit + k)
     at-unit k r low h =
-        let done : List ℕ = pre ++ units x.q st.first_unit k in
+        let done = pre ++ units x.q st.first_unit k in
         let long : length done ≡ st.begin + k =
-        length-append pre (units x.q st.first_unit k)
-        ∙ ap₂ (λ (a b : ℕ). a + b) begins (length-units x.q st.first_unit k) in
+        cc (length-append pre (units x.q st.first_unit k), length-units x.q st.first_unit k) in
         let here = inside (length done) (omega arith) (omega arith) in
         let early : has_units x done ≡ false =
         rw here (false_from_ne_true _ (λ t. let e : st.begin + st.units ≤ length done = grind (arith, nat_tests, t) in
         omega arith)) in
-        let is : eqb r (x.q ^ ((stage_after x done).first_unit + (length done - (stage_after x done).begin))) ≡ true =
-        sym (cond-false (has_units x done)
+        eqb-true _ _ (sym (cond-false _
         (is_later d (stage_after x done).first_unit r && nat_lt r (bound x done))
-        (eqb r (x.q ^ ((stage_after x done).first_unit + (length done - (stage_after x done).begin)))) early) ∙ h in
-        eqb-true _ _ is
-        ∙ ap (λ (z : Stage). x.q ^ (z.first_unit + (length done - z.begin))) here
+        (eqb r (x.q ^ ((stage_after x done).first_unit + (length done - (stage_after x done).begin)))) early) ∙ h)
+        ∙ ap (λ z. x.q ^ (z.first_unit + (length done - z.begin))) here
         ∙ ap (λ n. x.q ^ (st.first_unit + n)) (let e : length done - st.begin ≡ k = omega arith in e)
 
     units-first : (j k : ℕ) (rows : List ℕ) → k + j ≡ st.units → j ≤ length rows
@@ -66,13 +63,12 @@ module _ (x : Strata) where
     units-first zero k rows e long h = (
       rows,
       refl,
-      subst (λ n. do_follow x (pre ++ units x.q st.first_unit n) rows ≡ true)
-          (let e' : k ≡ st.units = omega arith in e') h,
+      rw (let e' : k ≡ st.units = omega arith in e') at h,
     )
     units-first (suc j) k [] e long h = absurd (omega arith)
     units-first (suc j) k (r ∷ rows) e long h =
-        let done : List ℕ = pre ++ units x.q st.first_unit k in
-        let p = and_parts (may_follow x done r) (do_follow x (done ++ r ∷ []) rows) h in
+        let done = pre ++ units x.q st.first_unit k in
+        let p = and_parts _ _ h in
         let is = at-unit k r (omega arith) p.0 in
         let next : done ++ r ∷ [] ≡ pre ++ units x.q st.first_unit (suc k) =
         cc (append_assoc pre (units x.q st.first_unit k) (r ∷ []), units-more x.q st.first_unit k) in
@@ -98,12 +94,11 @@ module _ (x : Strata) where
     others-next (suc j) done (r ∷ rows) e past long h =
         let p = and_parts (may_follow x done r) (do_follow x (done ++ r ∷ []) rows) h in
         let here = inside (length done) (omega arith) (omega arith) in
-        let there : has_units x done ≡ true =
-        rw here (grind (arith, nat_tests, past)) in
-        let low : (is_later d (stage_after x done).first_unit r && nat_lt r (bound x done)) ≡ true =
-        sym (cond-true (has_units x done)
+        let low =
+        sym (cond-true _
         (is_later d (stage_after x done).first_unit r && nat_lt r (bound x done))
-        (eqb r (x.q ^ ((stage_after x done).first_unit + (length done - (stage_after x done).begin)))) there) ∙ p.0 in
+        (eqb r (x.q ^ ((stage_after x done).first_unit + (length done - (stage_after x done).begin))))
+        (rw here (grind (arith, nat_tests, past)))) ∙ p.0 in
         let q = and_parts (is_later d (stage_after x done).first_unit r) (nat_lt r (bound x done)) low in
         let size = length-append done (r ∷ []) in
         let more = others-next j (done ++ r ∷ []) rows (omega arith) (omega arith) (omega arith) p.1 in
@@ -111,11 +106,9 @@ module _ (x : Strata) where
         ap (slice_index (done ++ r ∷ [])) (let e' : length (done ++ r ∷ []) - 1 ≡ length done + 0 = omega arith in
         e' ∙ (let e2 : length done + 0 ≡ length done = omega arith in e2))
         ∙ get_or-append_seam done r [] 0 in
-        let other : length (done ++ r ∷ []) ≡ st.begin + st.units → ⊥ = λ k. omega arith in
-        let next : cond (eqb (length (done ++ r ∷ [])) (st.begin + st.units)) (x.q ^ (st.first_unit + st.units))
-        (last_row (done ++ r ∷ [])) ≡ r =
+        let next =
         cond-false (eqb (length (done ++ r ∷ [])) (st.begin + st.units)) (x.q ^ (st.first_unit + st.units))
-        (last_row (done ++ r ∷ [])) (ne_eqb _ _ other) ∙ last in (
+        (last_row (done ++ r ∷ [])) (ne_eqb _ _ (λ k. omega arith)) ∙ last in (
           r ∷ more.0,
           more.1,
           cc more.2,
@@ -141,7 +134,7 @@ module _ (x : Strata) where
         in
         let lu = length-units x.q st.first_unit st.units in
         let lp : length (pre ++ us) ≡ st.begin + st.units =
-        length-append pre us ∙ ap₂ (λ (a b : ℕ). a + b) begins lu in
+        cc (length-append pre us, begins, lu) in
         let lr : length rows ≡ st.units + length one.0 =
         cc (length-append us one.0) in
         let two = others-next (to - (st.begin + st.units)) (pre ++ us) one.0 (omega arith) (omega arith) (omega arith)
@@ -149,7 +142,7 @@ module _ (x : Strata) where
           us ++ two.0,
           two.1,
           cc (two.2, append_assoc us two.0 two.1),
-          (let e = length-append us two.0 in let e' = two.3 in omega arith),
+          (let e' = two.3 in omega (arith, length-append us two.0)),
           record {
             others = two.0;
             is = refl;
@@ -165,22 +158,22 @@ module _ (x : Strata) where
     rest = do_follow x [] rows && (eqb (words x rows false 1) 0 && eqb (words x rows false 2) 0)
 
     h1 : (is_proper x ≡ true) × ((eqb (length rows) (x.w + x.n) && rest) ≡ true)
-    h1 = and_parts (is_proper x) (eqb (length rows) (x.w + x.n) && rest) h
+    h1 = and_parts _ _ h
 
     h2 : (eqb (length rows) (x.w + x.n) ≡ true) × (rest ≡ true)
-    h2 = and_parts (eqb (length rows) (x.w + x.n)) rest h1.1
+    h2 = and_parts _ rest h1.1
 
     h3 : (do_follow x [] rows ≡ true) × ((eqb (words x rows false 1) 0 && eqb (words x rows false 2) 0) ≡ true)
-    h3 = and_parts (do_follow x [] rows) (eqb (words x rows false 1) 0 && eqb (words x rows false 2) 0) h2.1
+    h3 = and_parts _ _ h2.1
 
     h4 : (eqb (words x rows false 1) 0 ≡ true) × (eqb (words x rows false 2) 0 ≡ true)
-    h4 = and_parts (eqb (words x rows false 1) 0) (eqb (words x rows false 2) 0) h3.1
+    h4 = and_parts _ _ h3.1
 
     p1 : (nat_le x.h x.m ≡ true) × ((nat_le x.m (x.h + x.n) && (eqb x.w 0 || nat_le x.h x.w)) ≡ true)
-    p1 = and_parts (nat_le x.h x.m) (nat_le x.m (x.h + x.n) && (eqb x.w 0 || nat_le x.h x.w)) h1.0
+    p1 = and_parts _ _ h1.0
 
     p2 : (nat_le x.m (x.h + x.n) ≡ true) × ((eqb x.w 0 || nat_le x.h x.w) ≡ true)
-    p2 = and_parts (nat_le x.m (x.h + x.n)) (eqb x.w 0 || nat_le x.h x.w) p1.1
+    p2 = and_parts _ _ p1.1
 
     base : x.h ≤ x.m
     base = (let t = p1.0 in grind (arith, nat_tests, t))
@@ -204,7 +197,7 @@ module _ (x : Strata) where
         let lb : length rows ≡ x.w + length behind =
         cc (length-append first behind) in
         let made = stage-made two first lf (x.w + x.n)
-        (λ k low high. cond-false (nat_lt k x.w) one two (le-ltb k x.w low)) (omega (arith, base, many))
+        (λ k low high. cond-false _ one two (le-ltb k x.w low)) (omega (arith, base, many))
         behind (omega (arith, len)) follow in
         let none = empty made.1
         (let e : length behind
@@ -214,9 +207,9 @@ module _ (x : Strata) where
         )) in
         let whole : behind ≡ made.0 = cc (made.2, append-nil made.0) in
         let front : take x.w rows ≡ first =
-        cc (subst (λ n. take n (first ++ behind) ≡ first) lf (take-append_seam first behind)) in
+        cc (rw lf at (take-append_seam first behind)) in
         let back : drop x.w rows ≡ behind =
-        cc (subst (λ n. drop n (first ++ behind) ≡ behind) lf (drop-append_seam first behind)) in
+        cc (rw lf at (drop-append_seam first behind)) in
         record {
           base = base;
           len = len;
@@ -229,13 +222,13 @@ module _ (x : Strata) where
         empty (z ∷ zs) e = absurd (omega arith)
 
     laid : IsLaid x rows
-    laid = elim (or_cases (eqb x.w 0) (nat_le x.h x.w) p2.1) [
+    laid = elim (or_cases _ _ p2.1) [
       | inl t ↦
           let e = eqb-true x.w 0 t in
-          second [] rows refl (sym e) h3.0 (inl e)
+          second [] rows refl (cc) h3.0 (inl e)
       | inr t ↦
           let wide : x.h ≤ x.w = grind (arith, nat_tests, t) in
-          let made = stage-made one [] refl x.w (λ k low high. cond-true (nat_lt k x.w) one two (lt-ltb k x.w high))
+          let made = stage-made one [] refl x.w (λ k low high. cond-true _ one two (lt-ltb k x.w high))
           (omega arith) rows (omega (arith, len)) h3.0 in
           second made.0 made.1 made.2 (let e = made.3 in omega arith) made.5 (inr made.4)
     ]

@@ -52,14 +52,14 @@ module _ (q m : ℕ) (f : IsField q) where
   total-same g h xs ys len same =
       cc (sum_by-each (λ u. h (weight u) (combination q m u ys)) (λ u. g (weight u) (combination q m u xs))
       (points q (length xs))
-      (recursion_from_All _ (points q (length xs))
-      (all-points q (length xs) some (λ u. h (weight u) (combination q m u ys) ≡ g (weight u) (combination q m u xs))
+      (recursion_from_All _ _
+      (all-points q _ some (λ u. h (weight u) (combination q m u ys) ≡ g (weight u) (combination q m u xs))
       same)))
 
   -- a change of the run indexes
   pub total-changed : (g : ℕ → List ℕ → ℕ) (a : List ℕ → List ℕ) → IsChange q m a → (xs : List (List ℕ))
       → AreVectors q m xs → total g (map a xs) ≡ total (λ j v. g j (a v)) xs
-  total-changed g a h xs hx = total-same (λ j v. g j (a v)) g xs (map a xs) (length-map xs a)
+  total-changed g a h xs hx = total-same (λ j v. g j (a v)) g xs _ (length-map xs a)
       (λ u hu. ap (g (weight u)) (change-combination q m f a h u xs hx))
 
   -- multiples of rows
@@ -70,9 +70,9 @@ module _ (q m : ℕ) (f : IsField q) where
       let at : List ℕ → ℕ = λ u. g (weight u) (combination q m u xs) in
       ap (λ k. sum_by (λ u. g (weight u) (combination q m u (scaled q cs xs))) (points q k)) (scaled-length q f cs xs e)
       ∙ sum_by-each (λ u. g (weight u) (combination q m u (scaled q cs xs))) (λ u. at (times q cs u)) (points q n)
-      (recursion_from_All _ (points q n) (all-points q n some
+      (recursion_from_All _ _ (all-points q n some
       (λ u. g (weight u) (combination q m u (scaled q cs xs)) ≡ at (times q cs u))
-      (λ u hu. cc (times-weight q f cs u h (e ∙ sym hu.len) hu.codes, scaled-combination q f m cs u xs e hu.len))))
+      (λ u hu. cc (times-weight q f cs u h (cc) hu.codes, scaled-combination q f m cs u xs e hu.len))))
       ∙ points-times q f n cs at h e
 
   -- another order
@@ -82,7 +82,7 @@ module _ (q m : ℕ) (f : IsField q) where
       let at : List ℕ → ℕ = λ u. g (weight u) (combination q m u xs) in
       ap (λ k'. sum_by (λ u. g (weight u) (combination q m u (swapped k xs))) (points q k')) (length-swapped k xs)
       ∙ sum_by-each (λ u. g (weight u) (combination q m u (swapped k xs))) (λ u. at (swapped k u)) (points q n)
-      (recursion_from_All _ (points q n) (all-points q n some
+      (recursion_from_All _ _ (all-points q n some
       (λ u. g (weight u) (combination q m u (swapped k xs)) ≡ at (swapped k u))
       (λ u hu. cc (swapped-weight q m f k u, swapped-combination q m f k u xs hu.len))))
       ∙ points-swapped q m f k n at
@@ -117,7 +117,7 @@ module _ (q m : ℕ) (f : IsField q) where
   pub alike-both : (xs ys xs' ys' : List (List ℕ)) → AreAlike xs xs' → AreAlike ys ys'
       → AreAlike (xs ++ ys) (xs' ++ ys')
   alike-both xs ys xs' ys' h k g =
-      total-turned g xs ys ∙ alike-behind ys xs xs' h g ∙ total-turned g ys xs' ∙ alike-behind xs' ys ys' k g
+      cc (total-turned g xs ys, alike-behind ys xs xs' h g, total-turned g ys xs', alike-behind xs' ys ys' k g)
 
   -- more rows give no less
   pub codes-split : (h : ℕ → ℕ) → sum_by h (codes_of q) ≡ h 0 + sum_by h (range_with_len 1 (q - 1))
@@ -128,49 +128,44 @@ module _ (q m : ℕ) (f : IsField q) where
   sum-le : (g h : ℕ → ℕ) (xs : List ℕ) → ((x : ℕ) → g x ≤ h x) → sum_by g xs ≤ sum_by h xs
   sum-le g h [] all = omega arith
   sum-le g h (x ∷ xs) all =
-      let a = sum_by-cons g x xs in
-      let b = sum_by-cons h x xs in
-      let one = all x in
-      let more = sum-le g h xs all in
-      omega arith
+      omega (arith, sum_by-cons g x xs, sum_by-cons h x xs, all x, sum-le g h xs all)
 
   -- a row with the code 0
   pub none-first : (g : ℕ → List ℕ → ℕ) (r : List ℕ) (rows : List (List ℕ)) → IsVector q m r → AreVectors q m rows
       → total (rest g r 0) rows ≡ total g rows
   none-first g r rows hr h = total-same g (rest g r 0) rows rows refl
-      (λ u hu. ap₂ (λ (j : ℕ) v. g j v) (let e : 0 + weight u ≡ weight u = omega arith in e)
+      (λ u hu. ap₂ (λ j v. g j v) (let e : 0 + weight u ≡ weight u = omega arith in e)
       (cc (scale-none q m f r hr, zeros-plus q m f (combination q m u rows) (combination-vector q m f u rows h))))
 
   pub total-grows : (g : ℕ → List ℕ → ℕ) (r : List ℕ) (rows : List (List ℕ)) → IsVector q m r → AreVectors q m rows
       → total g rows ≤ total g (r ∷ rows)
   total-grows g r rows hr h =
-      let a = total-cons g r rows in
       let b = codes-split (λ c. total (rest g r c) rows) in
-      let c = none-first g r rows hr h in
-      omega arith
+      omega (arith, total-cons g r rows, none-first g r rows hr h)
 
   -- a row makes no fewer words with one row more
   pub total-lifts : (g : ℕ → List ℕ → ℕ) (x y : List ℕ) (rows : List (List ℕ)) → IsVector q m x → IsVector q m y
       → AreVectors q m rows
       → total g (x ∷ rows) + total g (y ∷ rows) ≤ total g (x ∷ y ∷ rows) + total g rows
   total-lifts g x y rows hx hy h =
-      let a = total-cons g x rows in
       let b = codes-split (λ c. total (rest g x c) rows) in
       let c = none-first g x rows hx h in
-      let d = total-cons g x (y ∷ rows) in
       let e = codes-split (λ c. total (rest g x c) (y ∷ rows)) in
-      let k = none-first g x (y ∷ rows) hx (hy, h) in
-      let more = sum-le (λ c. total (rest g x c) rows) (λ c. total (rest g x c) (y ∷ rows)) (range_with_len 1 (q - 1))
-      (λ c. total-grows (rest g x c) y rows hy h) in
-      omega arith
+      omega (
+        arith,
+        total-cons g x rows,
+        total-cons g x (y ∷ rows),
+        none-first g x (y ∷ rows) hx (hy, h),
+        sum-le
+            (λ c. total (rest g x c) rows) (λ c. total (rest g x c) (y ∷ rows)) (range_with_len 1 (q - 1))
+            (λ c. total-grows (rest g x c) y rows hy h),
+      )
 
   -- the word of no row is one of all
   total-zero : (h : ℕ → List ℕ → ℕ) (rows : List (List ℕ)) → AreVectors q m rows → h 0 (zeros m) ≤ total h rows
-  total-zero h [] hr = (let e = sum_by-cons (λ u. h (weight u) (combination q m u [])) [] [] in omega arith)
+  total-zero h [] hr = (omega (arith, sum_by-cons (λ u. h (weight u) (combination q m u [])) [] []))
   total-zero h (r ∷ rows) hr =
-      let a = total-zero h rows hr.1 in
-      let b = total-grows h r rows hr.0 hr.1 in
-      omega arith
+      omega (arith, total-zero h rows hr.1, total-grows h r rows hr.0 hr.1)
 
   -- a row gives at least its own word
   pub total-adds : (g : ℕ → List ℕ → ℕ) (y : List ℕ) (rows : List (List ℕ)) → IsVector q m y → AreVectors q m rows
@@ -184,9 +179,8 @@ module _ (q m : ℕ) (f : IsField q) where
       ap (λ n. sum_by at (range_with_len 1 n)) (let e : q - 1 ≡ suc (q - 2) = omega arith in e)
       ∙ sum_by-cons at 1 (range_with_len 2 (q - 2)) in
       let e : rest g y 1 0 (zeros m) ≡ g 1 y =
-      ap (g 1) (plus-zero q m f (scale q 1 y) (scale-vector q m f 1 y hy) ∙ scale-one q m f y hy) in
-      let k = total-zero (rest g y 1) rows h in
-      omega arith
+      cc (plus-zero q m f _ (scale-vector q m f 1 y hy), scale-one q m f y hy) in
+      omega (arith, total-zero (rest g y 1) rows h)
 
   all-vectors : (xs ys : List (List ℕ)) → AreVectors q m xs → AreVectors q m ys → AreVectors q m (xs ++ ys)
   all-vectors [] ys hx hy = hy
@@ -197,9 +191,7 @@ module _ (q m : ℕ) (f : IsField q) where
       → total g (x ∷ rows) + total g (ys ++ rows) ≤ total g (x ∷ (ys ++ rows)) + total g rows
   lifts-all g x [] rows hx hy h = omega arith
   lifts-all g x (y ∷ ys) rows hx hy h =
-      let a = lifts-all g x ys rows hx hy.1 h in
-      let b = total-lifts g x y (ys ++ rows) hx hy.0 (all-vectors ys rows hy.1 h) in
-      omega arith
+      omega (arith, lifts-all g x ys rows hx hy.1 h, total-lifts g x y _ hx hy.0 (all-vectors ys rows hy.1 h))
 
   -- what one more row adds
   abbrev pub added : (ℕ → List ℕ → ℕ) → List (List ℕ) → List ℕ → ℕ
@@ -210,11 +202,13 @@ module _ (q m : ℕ) (f : IsField q) where
       → total g rows + sum_by (added g rows) xs ≤ total g (xs ++ rows)
   total-more g [] rows hx h = omega arith
   total-more g (x ∷ xs) rows hx h =
-      let a = total-more g xs rows hx.1 h in
-      let b = lifts-all g x xs rows hx.0 hx.1 h in
-      let c = total-grows g x rows hx.0 h in
-      let e = sum_by-cons (added g rows) x xs in
-      omega arith
+      omega (
+        arith,
+        total-more g xs rows hx.1 h,
+        lifts-all g x xs rows hx.0 hx.1 h,
+        total-grows g x rows hx.0 h,
+        sum_by-cons (added g rows) x xs,
+      )
 
 -- the counts of words are such sums
 module _ (q m : ℕ) (f : IsField q) (test : List ℕ → Bool) (k : ℕ) where
@@ -223,7 +217,7 @@ module _ (q m : ℕ) (f : IsField q) (test : List ℕ → Bool) (k : ℕ) where
 
 -- with a test that holds no more often no more is counted
 pub one-less : (a b c : Bool) → (a ≡ true → b ≡ true) → cond {A = ℕ} (a && c) 1 0 ≤ cond {A = ℕ} (b && c) 1 0
-one-less true b c h = (let e = h refl in rw e (omega arith))
+one-less true b c h = (rw (h refl) (omega arith))
 one-less false true true h = omega arith
 one-less false true false h = omega arith
 one-less false false c h = omega arith

@@ -27,9 +27,9 @@ use Rattle.fx_table_book.specs.declared.order.Order.TheVariants.{SitterChenFeder
 use Rattle.fx_table_book.specs.declared.book.TableBook.{TableBook}
 use Rattle.fx_table_book.specs.Tables.{IsBase, IsProper, IsKey, IsBook, entries_of, order_in}
 use Rattle.fx_table_book.specs.Texts.{base_text, order_text, name_of, key_text, entry_text, entries_text, book_text}
-use Rattle.fx_table_book.specs.Texts.{is_base, base_by, base_of, base_from, counted, some_numbers, order_from, is_count}
+use Rattle.fx_table_book.specs.Texts.{base_of, base_from, counted, some_numbers, order_from, is_count}
 use Rattle.fx_table_book.specs.Texts.{key_within, key_from, key_of, row_within, row_of, image_from, image_of, entry_of}
-use Rattle.fx_table_book.specs.Texts.{of_row, after_entry, entries, with_entries, with_key, with_order, with_base}
+use Rattle.fx_table_book.specs.Texts.{after_entry, entries, with_entries, with_key, with_order, with_base}
 use Rattle.fx_table_book.specs.Texts.{book_of, contents}
 use Rattle.fx_table_book.proofs.Fronts.{title_line, base_line, order_line, key_line}
 use Rattle.fx_table_book.proofs.LineParts.{all_below}
@@ -41,7 +41,7 @@ use Rattle.fx_table_book.proofs.Small.{IsLow, low_entries, all_under, from_zero,
 pub no_none : (ds rest : List ℕ) → 0 < length ds → AllDigits 10 ds → bytes_eq (ds ++ rest) (codes "none") ≡ false
 no_none [] rest some each = absurd (omega arith)
 no_none (c ∷ cs) rest some each = let e = digit_from_value c each.0 in
-    and_left _ _ (ne_eqb c 110 (λ z. omega (arith, e.1, z)))
+    and_left _ _ (ne_eqb c 110 (λ z. omega arith))
 
 module _ (base : Base) (h : IsBase base) where
   runs : base.q ^ base.m ≤ 1024
@@ -70,13 +70,13 @@ module _ (base : Base) (h : IsBase base) where
   no_end (books.Floor row) = refl
 
   wide : (row : ℕ) → row < base.q ^ base.m → AllByRecursion (λ a. a < 2 ^ 128) (row ∷ [])
-  wide row low = (let few = runs in omega (arith, low, few), tt)
+  wide row low = (let few = runs in omega arith, tt)
 
   few_numbers : (numbers : List ℕ) → All (λ a. a < base.q ^ base.m) numbers
       → AllByRecursion (λ a. a < 2 ^ 128) numbers
   few_numbers numbers each =
-      all_under (base.q ^ base.m) (2 ^ 128) (let few = runs in omega (arith, few)) numbers
-      (recursion_from_All (λ a. a < base.q ^ base.m) numbers each)
+      all_under _ _ (let few = runs in omega arith) numbers
+      (recursion_from_All _ numbers each)
 
   one_line : (entry : books.Entry) → IsLow base entry → Without 10 (line_of entry)
   one_line (books.Branch row) low = (refl, numbers.one_line (row ∷ []) (wide row low))
@@ -97,28 +97,22 @@ module _ (base : Base) (h : IsBase base) where
       ap (λ r. image_from (base.q ^ base.m) r (some_numbers base.m (map decimal change)))
       (number_back row (wide row low.0).0)
       ∙ ap (λ ns. image_from (base.q ^ base.m) (Some row) (counted base.m ns))
-      (numbers_back 0 (2 ^ 128) change (omega arith) (from_zero (2 ^ 128) change (few_numbers change low.2)))
+      (numbers_back 0 (2 ^ 128) change (omega arith) (from_zero _ change (few_numbers change low.2)))
       ∙ ap (image_from (base.q ^ base.m) (Some row)) (cond-true (eqb (length change) base.m) _ _ (eq-eqb _ _ low.1))
       ∙ cond-true (ltb row (base.q ^ base.m) && list_all (λ a. ltb a (base.q ^ base.m)) change) _ _
-      (and_from _ _ (lt-ltb _ _ low.0) (all_below (base.q ^ base.m) change low.2))
+      (and_from _ _ (lt-ltb _ _ low.0) (all_below _ change low.2))
 
   entry_back : (entry : books.Entry) → IsLow base entry → entry_of base (split 32 (line_of entry)) ≡ Ok entry
   entry_back (books.Branch row) low =
-      ap (λ ps. entry_of base (codes "O" ∷ ps)) (spaced_parts row [] (wide row low))
-      ∙ ap (λ r. of_row books.Branch r) (row_back row low)
+      cc (spaced_parts row [] (wide row low), row_back row low)
   entry_back (books.Worse row) low =
-      ap (λ ps. entry_of base (codes "P" ∷ ps)) (spaced_parts row [] (wide row low))
-      ∙ ap (λ r. of_row books.Worse r) (row_back row low)
+      cc (spaced_parts row [] (wide row low), row_back row low)
   entry_back (books.Image row change) low =
-      ap (λ ps. entry_of base (codes "I" ∷ ps))
-      (spaced_parts row change ((wide row low.0).0, few_numbers change low.2))
-      ∙ image_back row change low
+      cc (spaced_parts row change ((wide row low.0).0, few_numbers change low.2), image_back row change low)
   entry_back (books.NoRoom row) low =
-      ap (λ ps. entry_of base (codes "R" ∷ ps)) (spaced_parts row [] (wide row low))
-      ∙ ap (λ r. of_row books.NoRoom r) (row_back row low)
+      cc (spaced_parts row [] (wide row low), row_back row low)
   entry_back (books.Floor row) low =
-      ap (λ ps. entry_of base (codes "F" ∷ ps)) (spaced_parts row [] (wide row low))
-      ∙ ap (λ r. of_row books.Floor r) (row_back row low)
+      cc (spaced_parts row [] (wide row low), row_back row low)
 
   pub entries_back : (own : List books.Entry) (n : ℕ) → AllByRecursion (IsLow base) own
       → entries base n (split 10 (entries_text own ++ codes "END\n")) ≡ Ok own
@@ -139,14 +133,14 @@ module _ (base : Base) (h : IsBase base) where
   wide_base : AllByRecursion (λ a. a < 2 ^ 128) numbers_of
   wide_base =
       let l = base_little base h in (
-        omega (arith, l.q),
+        omega arith,
         (
-          omega (arith, l.m),
+          omega arith,
           (
-            omega (arith, l.h),
+            omega arith,
             (
-              omega (arith, l.factors),
-              (omega (arith, l.factors), tt),
+              omega arith,
+              (omega arith, tt),
             ),
           ),
         ),
@@ -157,9 +151,9 @@ module _ (base : Base) (h : IsBase base) where
       ap (λ ps. base_of (codes "base" ∷ ps))
       (spaced_parts base.q (base.m ∷ base.h ∷ base.w ∷ base.n ∷ []) wide_base)
       ∙ ap (λ ns. base_from (counted 5 ns))
-      (numbers_back 0 (2 ^ 128) numbers_of (omega arith) (from_zero (2 ^ 128) numbers_of wide_base))
-      ∙ ap base_from (cond-true (eqb (length numbers_of) 5) (Some numbers_of) None (eq-eqb (length numbers_of) 5 refl))
-      ∙ cond-true (is_base (base_by numbers_of)) _ _ (base_passes base h proper)
+      (numbers_back 0 (2 ^ 128) numbers_of (omega arith) (from_zero _ numbers_of wide_base))
+      ∙ ap base_from (cond-true _ (Some numbers_of) None (eq-eqb (length numbers_of) 5 refl))
+      ∙ cond-true _ _ _ (base_passes base h proper)
 
   pub base_plain : Without 10 (codes "base" ++ spaced numbers_of)
   base_plain = (refl, (refl, (refl, (refl, numbers.one_line numbers_of wide_base))))
@@ -173,7 +167,7 @@ module _ (base : Base) (h : IsBase base) where
   pub wide_key : (key : List ℕ) → AllByRecursion (λ a. (base.q - 1) * a < 2 ^ 127) key
       → AllByRecursion (λ a. a < 2 ^ 128) key
   wide_key key each =
-      all_under (2 ^ 127) (2 ^ 128) (omega arith) key
+      all_under (2 ^ 127) _ (omega arith) key
       (key_low base.q (order-bounds base.q h.shaped.order).0 key each)
 
   key_numbers : (count : ℕ) (key : List ℕ) → length key ≡ count
@@ -181,9 +175,9 @@ module _ (base : Base) (h : IsBase base) where
       → key_within base.q (some_numbers count (map decimal key)) ≡ Ok (Some key)
   key_numbers count key many each =
       ap (λ ns. key_within base.q (counted count ns))
-      (numbers_back 0 (2 ^ 128) key (omega arith) (from_zero (2 ^ 128) key (wide_key key each)))
+      (numbers_back 0 (2 ^ 128) key (omega arith) (from_zero _ key (wide_key key each)))
       ∙ ap (key_within base.q) (cond-true (eqb (length key) count) (Some key) None (eq-eqb _ _ many))
-      ∙ cond-true (list_all (is_count base.q) key) _ _ (counts key each)
+      ∙ cond-true _ _ _ (counts key each)
 
   -- the line of a key without its end
   abbrev pub key_line_of : Option (List ℕ) → List ℕ
@@ -198,10 +192,10 @@ module _ (base : Base) (h : IsBase base) where
       let each = recursion_from_All (λ a. (base.q - 1) * a < 2 ^ 127) (a ∷ key) valid.1 in
       let w = wide_key (a ∷ key) each in
       let numeral = (decimal_is_IsNumeral_wide a (omega (arith, w.0))).0 in
-      cond-false (bytes_eq (codes "key" ++ spaced (a ∷ key)) (codes "key none")) _ _
-      (no_none (decimal a) (spaced key) numeral.0 numeral.1)
+      cond-false _ _ _
+      (no_none _ (spaced key) numeral.0 numeral.1)
       ∙ ap (λ ps. key_from base.q count (codes "key" ∷ ps)) (spaced_parts a key w)
-      ∙ key_numbers count (a ∷ key) valid.0 each
+      ∙ key_numbers count _ valid.0 each
 
   pub key_plain : (count : ℕ) (key : Option (List ℕ)) → IsKey base.q count key → Without 10 (key_line_of key)
   key_plain count None valid = (refl, (refl, (refl, (refl, (refl, (refl, (refl, (refl, tt))))))))
@@ -212,7 +206,7 @@ module _ (base : Base) (h : IsBase base) where
       (
         refl,
         numbers.one_line key
-            (wide_key key (recursion_from_All (λ a. (base.q - 1) * a < 2 ^ 127) key valid.1)),
+            (wide_key key (recursion_from_All _ key valid.1)),
       ),
     ),
   )
@@ -240,30 +234,34 @@ pub book_back : (book : TableBook) → IsBook book → length (book_text book) �
     → book_of (book_text book) ≡ Ok (contents book)
 unfolding book_of
 book_back book valid short =
-    let base : Base = book.base in
-    let own : List books.Entry = entries_of book.entries in
-    let end : List ℕ = entries_text own ++ codes "END\n" in
-    let after_order : List ℕ = key_text book.key ++ end in
-    let after_base : List ℕ = order_text book.order ++ after_order in
-    let after : List ℕ = base_text base ++ after_base in
-    let base_words : List ℕ = codes "base" ++ spaced (numbers_of base valid.base) in
-    let order_words : List ℕ = codes "order " ++ name_of book.order in
-    let count : ℕ = length (order_in book) in
-    let key_words : List ℕ = key_line_of base valid.base book.key in
+    let own = entries_of book.entries in
+    let end = entries_text own ++ codes "END\n" in
+    let after_order = key_text book.key ++ end in
+    let after_base = order_text book.order ++ after_order in
+    let after = base_text book.base ++ after_base in
+    let base_words = codes "base" ++ spaced (numbers_of book.base valid.base) in
+    let count = length (order_in book) in
+    let key_words = key_line_of book.base valid.base book.key in
     let base_split : split 10 after ≡ base_words ∷ split 10 after_base =
-    ap (split 10) (sym (ended (codes "base") (numbers_of base valid.base) after_base))
-    ∙ split_line 10 base_words after_base (base_plain base valid.base) in
+    cc (
+      ended (codes "base") (numbers_of book.base valid.base) after_base,
+      split_line 10 base_words after_base
+          (base_plain book.base valid.base),
+    ) in
     let key_split : split 10 after_order ≡ key_words ∷ split 10 end =
-    ap (split 10) (key_ended base valid.base book.key end)
-    ∙ split_line 10 key_words end (key_plain base valid.base count book.key valid.key) in
+    cc (
+      key_ended book.base valid.base book.key end,
+      split_line 10 key_words end
+          (key_plain book.base valid.base count book.key valid.key),
+    ) in
     cond-false (ltb 33554432 (length (book_text book))) _ _ (le-ltb _ _ short)
-    ∙ title_line (codes "factex-table 2") (split 10 after) (split 10 (book_text book)) refl (some_parts 10 after)
-    ∙ base_line base_words (split 10 after_base) (split 10 after) base_split (some_parts 10 after_base)
-    ∙ ap (with_base (split 10 after_base)) (base_back base valid.base valid.proper)
-    ∙ order_line order_words (split 10 after_order) (split 10 after_base) (order_split book.order after_order)
-    (some_parts 10 after_order) base
-    ∙ ap (with_order base (split 10 after_order)) (order_back book.order)
-    ∙ key_line key_words (split 10 end) (split 10 after_order) key_split (some_parts 10 end) base book.order count refl
-    ∙ ap (with_key base book.order (split 10 end)) (key_back base valid.base count book.key valid.key)
-    ∙ ap (with_entries base book.order book.key)
-    (entries_back base valid.base own 5 (low_entries base book.entries valid.entries))
+    ∙ title_line (codes "factex-table 2") _ (split 10 (book_text book)) refl (some_parts 10 after)
+    ∙ base_line base_words _ _ base_split (some_parts 10 after_base)
+    ∙ ap (with_base (split 10 after_base)) (base_back book.base valid.base valid.proper)
+    ∙ order_line (codes "order " ++ name_of book.order) _ _ (order_split book.order after_order)
+    (some_parts 10 after_order) book.base
+    ∙ ap (with_order book.base (split 10 after_order)) (order_back book.order)
+    ∙ key_line key_words _ _ key_split (some_parts 10 end) book.base book.order count refl
+    ∙ ap (with_key book.base book.order (split 10 end)) (key_back book.base valid.base count book.key valid.key)
+    ∙ ap (with_entries book.base book.order book.key)
+    (entries_back book.base valid.base own 5 (low_entries book.base book.entries valid.entries))

@@ -11,19 +11,19 @@ module _ (base : Base) (h : IsBase base) where
   field = is_order-field base.q h.shaped.order
 
   pub some-levels : 0 < base.q
-  some-levels = (let f = field in omega (arith, f.more_than_one))
+  some-levels = (let f = field in omega arith)
 
   -- a power of so few factors
   pub power-low : (i : ℕ) → i ≤ base.m → base.q ^ i ≤ 1024
   power-low i low =
-      let less : base.q ^ i ≤ base.q ^ base.m = pow-le-pow_right some-levels low in
-      omega (arith, less, h.shaped.runs)
+      let less = pow-le-pow_right some-levels low in
+      omega arith
 
   pub power-few : (i : ℕ) → i ≤ base.m → base.q ^ i ≤ base.q ^ base.m
   power-few i low = pow-le-pow_right some-levels low
 
   pub power-some : (i : ℕ) → 0 < base.q ^ i
-  power-some i = (let one : 1 ≤ base.q ^ i = one-le-pow i base.q some-levels in omega arith)
+  power-some i = (omega (arith, one-le-pow i base.q some-levels))
 
   pub power-less : (i : ℕ) → i < base.m → base.q ^ i < base.q ^ base.m
   power-less i low =
@@ -31,5 +31,5 @@ module _ (base : Base) (h : IsBase base) where
       let next : base.q ^ suc i ≤ base.q ^ base.m = pow-le-pow_right some-levels low in
       let is : base.q ^ suc i ≡ base.q ^ i * base.q = pow-suc base.q i in
       let one : 1 ≤ base.q ^ i = one-le-pow i base.q some-levels in
-      let more : base.q ^ i * 2 ≤ base.q ^ i * base.q = mul-le-mul_left (base.q ^ i) (omega (arith, f.more_than_one)) in
+      let more : base.q ^ i * 2 ≤ base.q ^ i * base.q = mul-le-mul_left (base.q ^ i) (omega arith) in
       omega arith

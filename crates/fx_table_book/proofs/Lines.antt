@@ -1,6 +1,6 @@
 -- The lines of the entries of a book, one at a time.
 use Rattle.std.proofs.Common.{◌≡◌, ℕ, ◌+◌, ◌<◌, true, false, cond, List, [], ◌∷◌, ◌++◌, length, Result, Ok, Err}
-use Rattle.std.proofs.Common.{refl, sym, ap, ◌∙◌, arith, append_assoc}
+use Rattle.std.proofs.Common.{refl, ◌∙◌, arith, append_assoc}
 use Rattle.std.proofs.lemmas.Bool.{cond-true, cond-false}
 use Rattle.std.proofs.lemmas.List.{map-append}
 use Rattle.std.specs.Prelude.{codes}
@@ -33,19 +33,17 @@ module _ (base : Base) (n : ℕ) (line : List ℕ) where
   pub end_followed : (rest : List (List ℕ)) → 0 < length rest → bytes_eq line (codes "END") ≡ true
       → is_nothing rest ≡ false → entries base n (line ∷ rest) ≡ Err (fault Trailing (n + 1))
   end_followed rest h e more =
-      step rest h ∙ cond-true (bytes_eq line (codes "END")) _ _ e ∙ cond-false (is_nothing rest) _ _ more
+      step rest h ∙ cond-true _ _ _ e ∙ cond-false _ _ _ more
 
   pub at_entry : (rest : List (List ℕ)) → 0 < length rest → bytes_eq line (codes "END") ≡ false
       → entries base n (line ∷ rest)
       ≡ after_entry n (entry_of base (split 32 line)) (entries base (n + 1) rest)
-  at_entry rest h e = step rest h ∙ cond-false (bytes_eq line (codes "END")) _ _ e
+  at_entry rest h e = step rest h ∙ cond-false _ _ _ e
 
 pub onto_after : (own : List Entry) (n : ℕ) (entry : Entry) (read : Result (List books.Entry) BookFault)
     → onto (entries_of own) (after_entry n (read_as (Ok entry)) read) ≡ onto (entries_of (own ++ entry ∷ [])) read
 onto_after own n entry (Ok more) =
-    ap Ok
-    (sym (append_assoc (entries_of own) (tables.entry_of entry ∷ []) more)
-    ∙ ap (λ l. l ++ more) (sym (map-append tables.entry_of own (entry ∷ []))))
+    cc (append_assoc (entries_of own) (tables.entry_of entry ∷ []) more, map-append tables.entry_of own (entry ∷ []))
 onto_after own n entry (Err stop) = refl
 
 -- entries after others
@@ -53,6 +51,8 @@ pub entries-append : (own more : List Entry)
     → entries_text (entries_of (own ++ more)) ≡ entries_text (entries_of own) ++ entries_text (entries_of more)
 entries-append [] more = refl
 entries-append (entry ∷ own) more =
-    ap (λ l. entry_text (tables.entry_of entry) ++ l) (entries-append own more)
-    ∙ sym (append_assoc (entry_text (tables.entry_of entry)) (entries_text (entries_of own))
-    (entries_text (entries_of more)))
+    cc (
+      entries-append own more,
+      append_assoc (entry_text (tables.entry_of entry)) (entries_text (entries_of own))
+          (entries_text (entries_of more)),
+    )

@@ -1,6 +1,6 @@
 -- What the tests of a base say, and that a base within the limits passes them.
-use Rattle.std.proofs.Common.{◌≡◌, ℕ, ◌+◌, ◌^◌, ◌<◌, ◌≤◌, inl, inr, Bool, true, false, ◌||◌, leb, ltb, eqb}
-use Rattle.std.proofs.Common.{arith, subst, refl, le-leb, lt-ltb, eq-eqb, ne_eqb}
+use Rattle.std.proofs.Common.{◌≡◌, ℕ, ◌+◌, ◌<◌, ◌≤◌, inl, inr, Bool, true, false, ◌||◌, leb, ltb, eqb}
+use Rattle.std.proofs.Common.{arith, refl, le-leb, lt-ltb, eq-eqb, ne_eqb}
 use Rattle.std.proofs.lemmas.Bool.{cond-true, cond-false, cases_Bool, cases_eq, and_from, and_parts}
 use Rattle.std.proofs.lemmas.Bool.{or_left, or_right, leb-true, ltb-true}
 use Rattle.fx_vectors.specs.declared.shape.Shape.{Shape}
@@ -12,19 +12,19 @@ use Rattle.fx_book.specs.Heads.{is_shape}
 use Rattle.fx_book.specs.Versions.{most_factors_in}
 use Rattle.fx_book.proofs.Whole.{second_fits}
 use Rattle.fx_table_book.specs.declared.base.Base.{Base}
-use Rattle.fx_table_book.specs.Tables.{shape_of, IsBase, IsProper}
+use Rattle.fx_table_book.specs.Tables.{IsBase, IsProper}
 use Rattle.fx_table_book.specs.Texts.{is_base}
 
 few_factors : (q s : ℕ) → s ≤ most_factors_in Second q
     → (s ≤ MOST_FACTORS) × (3 < q → s ≤ MOST_FACTORS_OF_MANY_LEVELS)
 few_factors q s h =
     elim (cases_Bool (leb q 3)) [
-      | inl few ↦ let low : s ≤ MOST_FACTORS =
-          subst (λ n. s ≤ n) (cond-true (leb q 3) MOST_FACTORS MOST_FACTORS_OF_MANY_LEVELS few) h in
-          (low, λ many. absurd (let z = leb-true q 3 few in omega (arith, z, many)))
-      | inr many ↦ let low : s ≤ MOST_FACTORS_OF_MANY_LEVELS =
-          subst (λ n. s ≤ n) (cond-false (leb q 3) MOST_FACTORS MOST_FACTORS_OF_MANY_LEVELS many) h in
-          (omega (arith, low), λ more. low)
+      | inl few ↦ let low =
+          rw (cond-true _ MOST_FACTORS MOST_FACTORS_OF_MANY_LEVELS few) at h in
+          (low, λ many. absurd (let z = leb-true q 3 few in omega arith))
+      | inr many ↦ let low =
+          rw (cond-false _ MOST_FACTORS MOST_FACTORS_OF_MANY_LEVELS many) at h in
+          (omega arith, λ more. low)
     ]
 
 pub shape_is : (q m s : ℕ) → is_shape Second q m s 0 ≡ true → IsShape (record { q = q; m = m; s = s; t = 0 })
@@ -39,12 +39,12 @@ shape_is q m s h =
     record {
       order = a.0;
       some_indexes = leb-true 1 m b.0;
-      runs = leb-true (q ^ m) 1024 d.0;
+      runs = leb-true _ 1024 d.0;
       some_factors = leb-true 1 s e.0;
       factors = most.0;
       factors_of_many_levels = most.1;
       block_factors = omega arith;
-      factors_in_blocks = λ some. absurd (omega (arith, some));
+      factors_in_blocks = λ some. absurd (omega arith);
     }
 
 shape_passes : (q m s : ℕ) → IsShape (record { q = q; m = m; s = s; t = 0 }) → is_shape Second q m s 0 ≡ true
@@ -70,22 +70,22 @@ base_is base t =
     let factors = and_parts _ _ inside.1 in
     record {
       base = record {
-        shaped = shape_is base.q base.m (base.w + base.n) a.0;
+        shaped = shape_is base.q base.m _ a.0;
         inside = leb-true base.h base.m inside.0;
-        few_words = leb-true (base.q ^ (base.w + base.n)) (2 ^ 120) b.0;
+        few_words = leb-true _ _ b.0;
       };
       proper = record {
-        factors = leb-true base.m (base.h + base.n) factors.0;
+        factors = leb-true base.m _ factors.0;
         whole_plots = λ some.
             let other = no_blocks base.w some in (
-              ltb-true 0 base.h (or_right_of (eqb base.w 0) (ltb 0 base.h) other c.1),
-              leb-true base.h base.w (or_right_of (eqb base.w 0) (leb base.h base.w) other factors.1),
+              ltb-true 0 base.h (or_right_of _ _ other c.1),
+              leb-true base.h base.w (or_right_of _ _ other factors.1),
             );
       };
     }
   where
     no_blocks : (w : ℕ) → 0 < w → eqb w 0 ≡ false
-    no_blocks w some = ne_eqb w 0 (λ e. omega (arith, e, some))
+    no_blocks w some = ne_eqb w 0 (λ e. omega arith)
 
     or_right_of : (a b : Bool) → a ≡ false → (a || b) ≡ true → b ≡ true
     or_right_of true b e h = cc e
@@ -93,7 +93,7 @@ base_is base t =
 
 pub base_passes : (base : Base) → IsBase base → IsProper base → is_base base ≡ true
 base_passes base h proper =
-    and_from _ _ (shape_passes base.q base.m (base.w + base.n) h.shaped)
+    and_from _ _ (shape_passes base.q base.m _ h.shaped)
     (and_from _ _ (le-leb _ _ h.few_words)
     (and_from _ _
     (and_from _ _ (le-leb _ _ h.inside)
@@ -117,10 +117,10 @@ pub record IsLittle (base : Base) : Type 0 where
 
 pub base_little : (base : Base) → IsBase base → IsLittle base
 base_little base h =
-    let m : base.m ≤ 10 = indexes_fit (shape_of base) h.shaped in
+    let m = indexes_fit _ h.shaped in
     record {
       q = (order-bounds base.q h.shaped.order).1;
       m = m;
-      h = omega (arith, h.inside, m);
+      h = omega arith;
       factors = h.shaped.factors;
     }

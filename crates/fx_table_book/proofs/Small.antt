@@ -20,7 +20,7 @@ IsLow base (books.Floor row) = row < base.q ^ base.m
 
 pub low_entries : (base : Base) (entries : List Entry) → All (IsSmall base) entries
     → AllByRecursion (IsLow base) (entries_of entries)
-low_entries base entries h = own entries (recursion_from_All (IsSmall base) entries h)
+low_entries base entries h = own entries (recursion_from_All _ entries h)
   where
     own : (entries : List Entry) → AllByRecursion (IsSmall base) entries
         → AllByRecursion (IsLow base) (entries_of entries)
@@ -33,7 +33,7 @@ low_entries base entries h = own entries (recursion_from_All (IsSmall base) entr
 
 pub small_entries : (base : Base) (entries : List Entry) → AllByRecursion (IsLow base) (entries_of entries)
     → All (IsSmall base) entries
-small_entries base entries h = All-from_recursion (IsSmall base) entries (own entries h)
+small_entries base entries h = All-from_recursion _ entries (own entries h)
   where
     own : (entries : List Entry) → AllByRecursion (IsLow base) (entries_of entries)
         → AllByRecursion (IsSmall base) entries
@@ -48,7 +48,7 @@ small_entries base entries h = All-from_recursion (IsSmall base) entries (own en
 pub all_under : (low high : ℕ) → low ≤ high → (numbers : List ℕ) → AllByRecursion (λ a. a < low) numbers
     → AllByRecursion (λ a. a < high) numbers
 all_under low high h [] each = tt
-all_under low high h (a ∷ numbers) each = (omega (arith, h, each.0), all_under low high h numbers each.1)
+all_under low high h (a ∷ numbers) each = (omega arith, all_under low high h numbers each.1)
 
 pub from_zero : (limit : ℕ) (numbers : List ℕ) → AllByRecursion (λ a. a < limit) numbers
     → AllByRecursion (λ a. (0 ≤ a) × (a < limit)) numbers
@@ -60,6 +60,6 @@ pub key_low : (q : ℕ) → 2 ≤ q → (key : List ℕ) → AllByRecursion (λ 
     → AllByRecursion (λ a. a < 2 ^ 127) key
 key_low q some [] h = tt
 key_low q some (a ∷ key) h =
-    let one : 1 ≤ q - 1 = omega (arith, some) in
-    let more : 1 * a ≤ (q - 1) * a = mul-le-mul_right a one in
-    (omega (arith, more, h.0), key_low q some key h.1)
+    let one : 1 ≤ q - 1 = omega arith in
+    let more = mul-le-mul_right a one in
+    (omega arith, key_low q some key h.1)

@@ -17,27 +17,29 @@ use Rattle.fx_table_book.specs.declared.order.Order.TheVariants.{SitterChenFeder
 use Rattle.fx_table_book.specs.Tables.{IsWeight, order_of, parts_of, part_of}
 
 range-more : (a n k : ℕ) → a + n ≡ k → range_with_len a (suc n) ≡ range_with_len a n ++ k ∷ []
-range-more a zero k e = let same : a ≡ k = omega (arith, e) in ap (λ (c : ℕ). c ∷ []) same
-range-more a (suc n) k e = ap (λ (l : List ℕ). a ∷ l) (range-more (a + 1) n k (omega (arith, e)))
+range-more a zero k e = let same : a ≡ k = omega arith in cc
+range-more a (suc n) k e = cc (range-more (a + 1) n k (omega arith))
 
 module _ (x : Strata) where
   pub compared-append : (xs ys : List Part) → compared x (xs ++ ys) ≡ compared x xs ++ compared x ys
-  compared-append xs ys = filter-append (is_compared x) xs ys
+  compared-append xs ys = filter-append _ xs ys
 
   -- two parts that are put one after the other
   pub two : (old : List Part) (a b : Part)
       → (old ++ compared x (a ∷ [])) ++ compared x (b ∷ []) ≡ old ++ compared x (a ∷ b ∷ [])
   two old a b =
-      append_assoc old (compared x (a ∷ [])) (compared x (b ∷ []))
-      ∙ ap (λ (l : List Part). old ++ l) (sym (compared-append (a ∷ []) (b ∷ [])))
+      cc (append_assoc old (compared x (a ∷ [])) (compared x (b ∷ [])), compared-append (a ∷ []) (b ∷ []))
 
   pub three : (old : List Part) (a b c : Part)
       → ((old ++ compared x (a ∷ [])) ++ compared x (b ∷ [])) ++ compared x (c ∷ [])
       ≡ old ++ compared x (a ∷ b ∷ c ∷ [])
   three old a b c =
-      ap (λ (l : List Part). l ++ compared x (c ∷ [])) (two old a b)
-      ∙ append_assoc old (compared x (a ∷ b ∷ [])) (compared x (c ∷ []))
-      ∙ ap (λ (l : List Part). old ++ l) (sym (compared-append (a ∷ b ∷ []) (c ∷ [])))
+      cc (
+        two old a b,
+        append_assoc old (compared x (a ∷ b ∷ [])) (compared x (c ∷ [])),
+        compared-append (a ∷ b ∷ [])
+            (c ∷ []),
+      )
 
   -- the parts of the turns before one
   abbrev pub turns_before : (ℕ → List Part) → ℕ → List Part
@@ -52,23 +54,21 @@ module _ (x : Strata) where
       → new ≡ start ++ turns_before f next
   turn_more start old new f zero next some is was now = absurd (omega arith)
   turn_more start old new f (suc n) next some is was now =
-      let before : List ℕ = range_with_len 1 n in
+      let before = range_with_len 1 n in
       let less : suc n - 1 ≡ n = omega arith in
-      let more : next - 1 ≡ suc n = omega (arith, is) in
-      let one : 1 + n ≡ suc n = omega arith in
+      let more : next - 1 ≡ suc n = omega arith in
       let range : range_with_len 1 (next - 1) ≡ before ++ suc n ∷ [] =
-      ap (range_with_len 1) more ∙ range-more 1 n (suc n) one in
+      cc (range-more 1 n (suc n) (omega arith)) in
       let before_it : turns_before f (suc n) ≡ compared x (flat_map f before) =
-      ap (λ (i : ℕ). compared x (flat_map f (range_with_len 1 i))) less in
-      let turns : flat_map f (before ++ suc n ∷ []) ≡ flat_map f before ++ f (suc n) =
+      cc in
+      let turns =
       flat_map-append f before (suc n ∷ [])
-      ∙ ap (λ (l : List Part). flat_map f before ++ l) (append-nil (f (suc n))) in
-      now
-      ∙ ap (λ (l : List Part). l ++ compared x (f (suc n))) (was ∙ ap (λ (l : List Part). start ++ l) before_it)
-      ∙ append_assoc start (compared x (flat_map f before)) (compared x (f (suc n)))
-      ∙ ap (λ (l : List Part). start ++ l)
-      (sym (ap (λ (l : List ℕ). compared x (flat_map f l)) range ∙ ap (compared x) turns
-      ∙ compared-append (flat_map f before) (f (suc n))))
+      ∙ ap (λ l. flat_map f before ++ l) (append-nil (f (suc n))) in
+      cc (
+        append_assoc start (compared x (flat_map f before)) (compared x (f (suc n))),
+        compared-append
+            (flat_map f before) (f (suc n)),
+      )
 
   -- what is compared has a weight of so many factors
   each_weight : (parts : List book.Part)
@@ -80,12 +80,10 @@ module _ (x : Strata) where
       own : (part : book.Part) → is_compared x (part_of part) ≡ true → IsWeight (x.w + x.n) part
       own (Constant k) h =
           let p = and_parts _ _ h in
-          let low : 3 ≤ k = leb-true 3 k p.0 in
-          (omega arith, leb-true k (x.w + x.n) p.1)
+          (omega (arith, leb-true 3 k p.0), leb-true k _ p.1)
       own (Confounded k) h =
           let p = and_parts _ _ (and_parts _ _ h).1 in
-          let low : 2 ≤ k = leb-true 2 k p.0 in
-          (omega arith, leb-true k (x.w + x.n) p.1)
+          (omega (arith, leb-true 2 k p.0), leb-true k _ p.1)
       own Unclear h = tt
 
   -- the parts of which an order has those that are compared
@@ -110,6 +108,6 @@ module _ (x : Strata) where
       → IfOk r (λ (parts : List book.Part). All (IsWeight (x.w + x.n)) parts)
   weights_of order (Err e) h = tt
   weights_of order (Ok parts) h =
-      All-from_recursion (IsWeight (x.w + x.n)) parts
-      (each_weight parts (recursion_from_All (λ p. is_compared x p ≡ true) (parts_of parts)
+      All-from_recursion _ parts
+      (each_weight parts (recursion_from_All (λ p. is_compared x p ≡ true) _
       (subst (All (λ p. is_compared x p ≡ true)) (sym h) (passes order))))

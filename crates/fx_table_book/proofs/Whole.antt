@@ -17,7 +17,7 @@ use Rattle.fx_table_book.specs.declared.book.TableBook.{TableBook}
 use Rattle.fx_table_book.specs.Tables.{IsBook, entries_of}
 use Rattle.fx_table_book.specs.Tables as tables
 use Rattle.fx_table_book.specs.Texts.{contents, base_text, order_text, key_text, pattern_text, entries_text, book_text}
-use Rattle.fx_table_book.specs.Texts.{first_text, IsFirst, by_title, from_base, from_size, from_title, book_of}
+use Rattle.fx_table_book.specs.Texts.{first_text, IsFirst, by_title, from_base, from_size, book_of}
 use Rattle.fx_table_book.proofs.Accepted.{base_said, entries_long}
 use Rattle.fx_table_book.proofs.FirstAccepted.{size_said}
 use Rattle.fx_table_book.proofs.Small.{small_entries}
@@ -39,7 +39,6 @@ module _ (text : List ℕ) (book : TableBook) (low : length text ≤ 33554432) w
   few front is =
       omega (
         arith,
-        low,
         ap length is,
         length-append front body,
         length-append (entries_text own) (codes "END\n"),
@@ -51,11 +50,11 @@ module _ (text : List ℕ) (book : TableBook) (low : length text ≤ 33554432) w
       → from_base rest ≡ Ok (contents book)
       → IsAccepted text book
   second rest is h =
-      let said = base_said rest (contents book) h in
-      let written : text ≡ book_text book = is ∙ ap (λ l. codes "factex-table 2\n" ++ l) said.text in
-      let base : List ℕ = base_text book.base in
-      let order : List ℕ = order_text book.order in
-      let key : List ℕ = key_text book.key in
+      let said = base_said rest _ h in
+      let written : text ≡ book_text book = cc in
+      let base = base_text book.base in
+      let order = order_text book.order in
+      let key = key_text book.key in
       record {
         valid = record {
           base = said.tested.base;
@@ -71,19 +70,17 @@ module _ (text : List ℕ) (book : TableBook) (low : length text ≤ 33554432) w
           → codes "factex-table 2\n" ++ (base ++ (order ++ (key ++ body)))
           ≡ (codes "factex-table 2\n" ++ (base ++ (order ++ key))) ++ body
       grouped base order key =
-          ap (λ (l : List ℕ). codes "factex-table 2\n" ++ l)
-          (sym (append_assoc base (order ++ key) body
-          ∙ ap (λ (l : List ℕ). base ++ l) (append_assoc order key body)))
+          cc (append_assoc base (order ++ key) body, append_assoc order key body)
 
   first : (rest : List (List ℕ)) → text ≡ codes "factex-table 1\n" ++ joined 10 rest
       → from_size rest ≡ Ok (contents book)
       → IsAccepted text book
   first rest is h =
-      let said = size_said rest (contents book) h in
-      let written : text ≡ first_text (contents book) = is ∙ ap (λ l. codes "factex-table 1\n" ++ l) said.text in
-      let size : List ℕ = line_text (codes "size") (book.base.q ∷ book.base.m ∷ book.base.n ∷ 0 ∷ []) in
-      let demands : List ℕ = codes "resolution 3\n" in
-      let pattern : List ℕ = pattern_text book.key in
+      let said = size_said rest _ h in
+      let written : text ≡ first_text (contents book) = cc in
+      let size = line_text (codes "size") (book.base.q ∷ book.base.m ∷ book.base.n ∷ 0 ∷ []) in
+      let demands = codes "resolution 3\n" in
+      let pattern = pattern_text book.key in
       record {
         valid = record {
           base = said.tested.base;
@@ -101,9 +98,7 @@ module _ (text : List ℕ) (book : TableBook) (low : length text ≤ 33554432) w
           → codes "factex-table 1\n" ++ (size ++ (demands ++ (pattern ++ body)))
           ≡ (codes "factex-table 1\n" ++ (size ++ (demands ++ pattern))) ++ body
       grouped size demands pattern =
-          ap (λ (l : List ℕ). codes "factex-table 1\n" ++ l)
-          (sym (append_assoc size (demands ++ pattern) body
-          ∙ ap (λ (l : List ℕ). size ++ l) (append_assoc demands pattern body)))
+          cc (append_assoc size (demands ++ pattern) body, append_assoc demands pattern body)
 
   titled : (line : List ℕ) (rest : List (List ℕ)) → text ≡ line ++ 10 ∷ joined 10 rest
       → by_title line rest ≡ Ok (contents book)
@@ -112,9 +107,9 @@ module _ (text : List ℕ) (book : TableBook) (low : length text ≤ 33554432) w
       elim (cases_Bool (bytes_eq line (codes "factex-table 2"))) [
         | inl title ↦
             second rest
-            (is ∙ ap (λ l. l ++ 10 ∷ joined 10 rest) (same_bytes line (codes "factex-table 2") title))
-            (sym (cond-true (bytes_eq line (codes "factex-table 2")) _ _ title) ∙ h)
-        | inr other ↦ earlier (sym (cond-false (bytes_eq line (codes "factex-table 2")) _ _ other) ∙ h)
+            (cc (same_bytes line _ title))
+            (sym (cond-true _ _ _ title) ∙ h)
+        | inr other ↦ earlier (sym (cond-false _ _ _ other) ∙ h)
       ]
     where
       earlier : cond (bytes_eq line (codes "factex-table 1")) (from_size rest) (Err (fault kind.Title 1))
@@ -124,21 +119,19 @@ module _ (text : List ℕ) (book : TableBook) (low : length text ≤ 33554432) w
           elim (cases_Bool (bytes_eq line (codes "factex-table 1"))) [
             | inl title ↦
                 first rest
-                (is ∙ ap (λ l. l ++ 10 ∷ joined 10 rest) (same_bytes line (codes "factex-table 1") title))
-                (sym (cond-true (bytes_eq line (codes "factex-table 1")) _ _ title) ∙ h)
+                (cc (same_bytes line _ title))
+                (sym (cond-true _ _ _ title) ∙ h)
             | inr none ↦
-                let z = sym (cond-false (bytes_eq line (codes "factex-table 1")) _ _ none) ∙ h in cc z
+                let z = sym (cond-false _ _ _ none) ∙ h in cc z
           ]
 
 pub book_accepted : (text : List ℕ) (book : TableBook) → book_of text ≡ Ok (contents book) → IsAccepted text book
 unfolding book_of
 book_accepted text book h =
     elim (cases_Bool (ltb 33554432 (length text))) [
-      | inl long ↦ let z = sym (cond-true (ltb 33554432 (length text)) _ _ long) ∙ h in cc z
+      | inl long ↦ let z = sym (cond-true _ _ _ long) ∙ h in cc z
       | inr fits ↦
-          let h' : from_title (split 10 text) ≡ Ok (contents book) =
-          sym (cond-false (ltb 33554432 (length text)) _ _ fits) ∙ h in
-          let k = line_taken (fault kind.Title 1) by_title (split 10 text) (contents book) h' in
+          let k = line_taken (fault kind.Title 1) by_title (split 10 text) _ (sym (cond-false _ _ _ fits) ∙ h) in
           let own : text ≡ k.0 ++ 10 ∷ joined 10 k.1 =
           sym (join_split 10 text) ∙ ap (joined 10) k.2 ∙ joined_more 10 k.0 k.1 k.3 in
           titled text book (ltb-false _ _ fits) k.0 k.1 own k.4

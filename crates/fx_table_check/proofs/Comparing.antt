@@ -20,7 +20,7 @@ less-ended [] ys zero h = refl
 less-ended (x ∷ xs) [] zero h = refl
 less-ended (x ∷ xs) (y ∷ ys) zero h = absurd (omega arith)
 less-ended [] ys (suc i) h = refl
-less-ended (x ∷ xs) [] (suc i) h = less-none (drop i xs)
+less-ended (x ∷ xs) [] (suc i) h = less-none _
 less-ended (x ∷ xs) (y ∷ ys) (suc i) h = less-ended xs ys i (omega arith)
 
 module _ (d : Dimensions) where
@@ -33,6 +33,6 @@ module _ (d : Dimensions) where
   pub no-units : (rows : List ℕ)
       → filter (λ r. not (list_any (λ u. eqb u r) (units d.q 0 d.m))) rows ≡ filter (λ r. not (is_unit d r)) rows
   no-units rows =
-      filter_agree_each (λ r. not (list_any (λ u. eqb u r) (units d.q 0 d.m))) (λ r. not (is_unit d r)) rows
+      filter_agree_each _ _ rows
       (each-all (λ r. not (list_any (λ u. eqb u r) (units d.q 0 d.m)) ≡ not (is_unit d r)) rows
       (λ r. ap not (unit-among r)))

@@ -1,6 +1,6 @@
 -- Keys where a word and its multiples count as one.
 use Rattle.std.proofs.Common.{ℕ, ◌≡◌, ◌<◌, ◌+◌, ◌-◌, ◌*◌, ◌/◌, ◌%◌, true, ◌&&◌, List, [], ◌∷◌, ◌++◌}
-use Rattle.std.proofs.Common.{map, length, take, get_or, slice_index, Some, sym, subst, ◌∙◌, ap, ap₂}
+use Rattle.std.proofs.Common.{map, length, take, get_or, slice_index, Some, sym, ◌∙◌, ap}
 use Rattle.std.proofs.Common.{arith}
 use Rattle.std.proofs.Math.Nat.{div-add-mod, mul_comm, mul-mod_left}
 use Rattle.std.proofs.Math.Seq.{take-length}
@@ -43,13 +43,15 @@ pub divided-more : (q : ℕ) (f : designs.Part → ℕ) (parts : List Part) (i :
     → value ≡ f (part_of (get_or parts i d)) → value % c ≡ 0
     → multiplied q (key ++ value / c ∷ []) ≡ map f (parts_of (take (i + 1) parts))
 divided-more q f parts i d key value c codes low before is whole =
-    let part : Part = get_or parts i d in
+    let part = get_or parts i d in
     let exact : (q - 1) * (value / c) ≡ f (part_of part) =
-    ap (λ n. n * (value / c)) (sym codes) ∙ none (c * (value / c)) (value % c) whole ∙ div-add-mod value c ∙ is in
-    map_push (λ a. (q - 1) * a) key (value / c)
-    ∙ ap₂ (λ (l : List ℕ) (n : ℕ). l ++ n ∷ []) before exact
-    ∙ sym (ap (map f) (ap parts_of (take_more parts i d low) ∙ map_push part_of (take i parts) part)
-    ∙ map_push f (parts_of (take i parts)) (part_of part))
+    cc (none (c * (value / c)) _ whole, div-add-mod value c) in
+    cc (
+      map_push (λ a. (q - 1) * a) key (value / c),
+      take_more parts i d low,
+      map_push part_of (take i parts) part,
+      map_push f (parts_of (take i parts)) (part_of part),
+    )
   where
     none : (a b : ℕ) → b ≡ 0 → a ≡ a + b
     none a b e = omega arith
@@ -59,10 +61,10 @@ pub valid-more : (q : ℕ) (key : List ℕ) (i value c : ℕ) → c ≡ q - 1 �
     → IsKey q i (Some key) → (more : List ℕ) → more ≡ key ++ value / c ∷ [] → IsKey q (i + 1) (Some more)
 valid-more q key i value c codes whole low valid more is =
     let exact : (q - 1) * (value / c) ≡ value =
-    ap (λ n. n * (value / c)) (sym codes) ∙ none (c * (value / c)) (value % c) whole ∙ div-add-mod value c in
-    subst (λ (l : List ℕ). IsKey q (i + 1) (Some l)) (sym is) (
+    cc (none (c * (value / c)) _ whole, div-add-mod value c) in
+    rw is (
       length-append key (value / c ∷ []) ∙ ap (λ k. k + 1) valid.0,
-      All-push (λ a. (q - 1) * a < 2 ^ 127) key (value / c) valid.1 (subst (λ n. n < 2 ^ 127) (sym exact) low),
+      All-push (λ a. (q - 1) * a < 2 ^ 127) key (value / c) valid.1 (rw (← exact) at low),
     )
   where
     none : (a b : ℕ) → b ≡ 0 → a ≡ a + b
@@ -72,7 +74,7 @@ valid-more q key i value c codes whole low valid more is =
 pub least : (x : Strata) (f : IsField x.q) → 0 < x.w + x.n → HasFactors x → (order : Order) (rows key : List ℕ)
     → is_design x rows ≡ true → multiplied x.q key ≡ key_of order (figures x rows) → IsLeastOf x order rows (Some key)
 least x f some many order rows key design h = λ entries good.
-    least_of_all (record { strata = x; order = order; beat = Some (multiplied x.q key) }) f some entries good many rows
+    least_of_all _ f some entries good many rows
     design (ap Some h)
 
 -- what an entry counts is a multiple of q - 1
@@ -81,18 +83,18 @@ pub value-divides : (base : Base) → IsBase base → (rows : List ℕ)
     → (part : Part) → IsWeight (base.w + base.n) part → (k : ℕ) × (value_at base rows part ≡ (base.q - 1) * k)
 value-divides base h rows low few (Constant weight) at = (
   _,
-  ap (λ j. words (strata_of base) rows false j) (let e : weight ≡ weight - 1 + 1 = omega (arith, at.0) in e)
-      ∙ words-false (strata_of base) (field base h) h.inside rows low few (weight - 1) (omega (arith, at.0, at.1)),
+  ap (words (strata_of base) rows false) (let e : weight ≡ weight - 1 + 1 = omega arith in e)
+      ∙ words-false (strata_of base) (field base h) h.inside rows low few (weight - 1) (omega arith),
 )
 value-divides base h rows low few (Confounded weight) at = (
   _,
-  ap (λ j. words (strata_of base) rows true j) (let e : weight ≡ weight - 1 + 1 = omega (arith, at.0) in e)
-      ∙ words-true (strata_of base) (field base h) h.inside rows low few (weight - 1) (omega (arith, at.0, at.1)),
+  ap (words (strata_of base) rows true) (let e : weight ≡ weight - 1 + 1 = omega arith in e)
+      ∙ words-true (strata_of base) (field base h) h.inside rows low few (weight - 1) (omega arith),
 )
 value-divides base h rows low few Unclear at = unclear-divides (strata_of base) (field base h) h.inside rows
 
 pub nothing-left : (value c k : ℕ) → value ≡ c * k → value % c ≡ 0
-nothing-left value c k is = ap (λ n. n % c) (is ∙ mul_comm c k) ∙ mul-mod_left k c
+nothing-left value c k is = cc (mul_comm c k, mul-mod_left k c)
 
 -- where the numbers of a design fit, there are enough factors
 pub has-factors : (x : Strata) → is_proper x ≡ true → HasFactors x

@@ -1,7 +1,7 @@
 -- The greatest row that may follow.
 use Rattle.std.proofs.Common.{ℕ, ◌≡◌, ◌<◌, ◌≤◌, ◌+◌, ◌-◌, ◌^◌, zero, suc, Bool, true, false, eqb, ◌&&◌, List, []}
 use Rattle.std.proofs.Common.{◌∷◌}
-use Rattle.std.proofs.Common.{length, refl, ◌∙◌, ap, ap₂, arith, inl, inr}
+use Rattle.std.proofs.Common.{length, refl, ◌∙◌, ap, arith, inl, inr}
 use Rattle.std.specs.Prelude.{min, nat_lt}
 use Rattle.std.specs.List.{filter}
 use Rattle.std.proofs.lemmas.Bool.{cases_lt, cases_eq, cond-true, cond-false, lt-ltb, ltb-true}
@@ -18,7 +18,7 @@ cut p b none zero = ap (λ k. filter p (falling k)) (let e : 0 ≡ min 0 b = ome
 cut p b none (suc n) = elim (cases_lt n b) [
   | inl l ↦ ap (λ k. filter p (falling k)) (let e : suc n ≡ min (suc n) b = omega arith in e)
   | inr g ↦
-      cond-false (p n) (n ∷ filter p (falling n)) (filter p (falling n)) (none n (omega arith))
+      cond-false _ (n ∷ filter p (falling n)) (filter p (falling n)) (none n (omega arith))
       ∙ cut p b none n
       ∙ ap (λ k. filter p (falling k)) (let e : min n b ≡ min (suc n) b = omega arith in e)
 ]
@@ -29,24 +29,23 @@ pub alone : (p : ℕ → Bool) (u : ℕ) → p u ≡ true → ((r : ℕ) → (r 
 alone p u here other zero low = absurd (omega arith)
 alone p u here other (suc n) low = elim (cases_eq n u) [
   | inl e ↦
-      cond-true (p n) (n ∷ filter p (falling n)) (filter p (falling n)) (ap p e ∙ here)
-      ∙ ap₂ (λ (a : ℕ) (l : List ℕ). a ∷ l) e (none-below n (omega arith))
+      cc (cond-true _ (n ∷ filter p (falling n)) (filter p (falling n)) (ap p e ∙ here), none-below n (omega arith))
   | inr ne ↦
-      cond-false (p n) (n ∷ filter p (falling n)) (filter p (falling n)) (other n ne)
+      cond-false _ (n ∷ filter p (falling n)) (filter p (falling n)) (other n ne)
       ∙ alone p u here other n (omega arith)
 ]
   where
     none-below : (k : ℕ) → k ≤ u → filter p (falling k) ≡ []
     none-below zero low = refl
     none-below (suc k) low =
-        cond-false (p k) (k ∷ filter p (falling k)) (filter p (falling k)) (other k (λ e. omega arith))
+        cond-false _ (k ∷ filter p (falling k)) (filter p (falling k)) (other k (λ e. omega arith))
         ∙ none-below k (omega arith)
 
 pub none-before : (p : ℕ → Bool) (u : ℕ) → ((r : ℕ) → (r ≡ u → ⊥) → p r ≡ false) → (n : ℕ) → n ≤ u
     → filter p (falling n) ≡ []
 none-before p u other zero low = refl
 none-before p u other (suc n) low =
-    cond-false (p n) (n ∷ filter p (falling n)) (filter p (falling n)) (other n (λ e. omega arith))
+    cond-false _ (n ∷ filter p (falling n)) (filter p (falling n)) (other n (λ e. omega arith))
     ∙ none-before p u other n (omega arith)
 
 module _ (x : Strata) (rows : List ℕ) where
@@ -58,10 +57,10 @@ module _ (x : Strata) (rows : List ℕ) where
 
   module _ (units : has_units x rows ≡ true) where
     with-units : (r : ℕ) → may_follow x rows r ≡ (later r && nat_lt r (bound x rows))
-    with-units r = cond-true (has_units x rows) (later r && nat_lt r (bound x rows)) (eqb r unit) units
+    with-units r = cond-true _ _ _ units
 
     pub below-bound : (r : ℕ) → r < bound x rows → may_follow x rows r ≡ later r
-    below-bound r low = with-units r ∙ ap (λ b. later r && b) (lt-ltb r (bound x rows) low) ∙ and-true (later r)
+    below-bound r low = cc (with-units r, lt-ltb r _ low, and-true (later r))
       where
         and-true : (b : Bool) → (b && true) ≡ b
         and-true true = refl
@@ -69,10 +68,12 @@ module _ (x : Strata) (rows : List ℕ) where
 
     pub none-above : (r : ℕ) → bound x rows ≤ r → may_follow x rows r ≡ false
     none-above r high =
-        with-units r
-        ∙ ap (λ b. later r && b) (false_from_ne_true (nat_lt r (bound x rows))
-        (λ t. let l : r < bound x rows = ltb-true r (bound x rows) t in omega arith))
-        ∙ and-false (later r)
+        cc (
+          with-units r,
+          false_from_ne_true (nat_lt r (bound x rows))
+              (λ t. omega (arith, ltb-true r _ t)),
+          and-false (later r),
+        )
       where
         and-false : (b : Bool) → (b && false) ≡ false
         and-false true = refl
@@ -80,4 +81,4 @@ module _ (x : Strata) (rows : List ℕ) where
 
   module _ (missing : has_units x rows ≡ false) where
     pub without-units : (r : ℕ) → may_follow x rows r ≡ eqb r unit
-    without-units r = cond-false (has_units x rows) (later r && nat_lt r (bound x rows)) (eqb r unit) missing
+    without-units r = cond-false _ _ _ missing

@@ -1,8 +1,8 @@
 -- A word and its multiples count each: each entry of a key is a multiple of q - 1.
-use Rattle.std.proofs.Common.{ℕ, ◌≡◌, ◌<◌, ◌≤◌, ◌+◌, ◌-◌, ◌*◌, Bool, true, false, cond, eqb, ◌&&◌, ◌||◌}
-use Rattle.std.proofs.Common.{List, [], ◌∷◌, map, refl, sym, ◌∙◌, ap, ap₂, arith}
+use Rattle.std.proofs.Common.{ℕ, ◌≡◌, ◌<◌, ◌≤◌, ◌+◌, ◌-◌, ◌*◌, Bool, true, false, cond, eqb, ◌&&◌}
+use Rattle.std.proofs.Common.{List, [], ◌∷◌, refl, sym, ◌∙◌, ap, arith}
 use Rattle.std.specs.Prelude.{nat_lt}
-use Rattle.std.specs.List.{sum_by, range_with_len}
+use Rattle.std.specs.List.{range_with_len}
 use Rattle.std.proofs.lemmas.Bool.{cond-true, lt-ltb}
 use Rattle.std.proofs.lemmas.List.{length-map}
 use Rattle.std.proofs.lemmas.List.Sums.{sum_by-cons}
@@ -28,38 +28,39 @@ module _ (q m : ℕ) (f : IsField q) (g : ℕ → List ℕ → ℕ)
   each-code : (c : ℕ) → 0 < c → c < q → (r : List ℕ) → IsVector q m r → (rows : List (List ℕ)) → AreVectors q m rows
       → total q m f (rest q m f g r c) rows ≡ total q m f (rest q m f g r 1) rows
   each-code c pos low r hr rows h =
-      sym (total-scaled q m f (rest q m f g r c) (map (λ v. c) rows) rows (are-scalars q m f c pos low rows)
+      sym (total-scaled q m f (rest q m f g r c) _ rows (are-scalars q m f c pos low rows)
       (length-map rows (λ v. c)))
       ∙ ap (total q m f (rest q m f g r c)) (each-scaled q m f c rows)
-      ∙ total-changed q m f (rest q m f g r c) (λ v. scale q c v) (scaling q m f c pos low) rows h
+      ∙ total-changed q m f (rest q m f g r c) _ (scaling q m f c pos low) rows h
       ∙ total-same q m f (rest q m f g r 1) (λ j v. rest q m f g r c j (scale q c v)) rows rows refl
       (λ u hu.
-      let v : List ℕ = combination q m u rows in
-      let hv : IsVector q m v = combination-vector q m f u rows h in
+      let v = combination q m u rows in
+      let hv = combination-vector q m f u rows h in
       let bit : cond {A = ℕ} (nat_lt 0 c) 1 0 ≡ 1 = cond-true (nat_lt 0 c) 1 0 (lt-ltb 0 c pos) in
-      ap₂ (λ (b : ℕ) z. g (b + weight u) z) bit (sym ((scaling q m f c pos low).sums r v hr hv))
-      ∙ same c (1 + weight u) (plus q r v) pos low (plus-vector q m f r v hr hv)
-      ∙ ap (λ z. g (1 + weight u) (plus q z v)) (sym (scale-one q m f r hr)))
+      cc (
+        bit,
+        (scaling q m f c pos low).sums r v hr hv,
+        same c (1 + weight u) (plus q r v) pos low
+            (plus-vector q m f r v hr hv),
+        scale-one q m f r hr,
+      ))
 
   pub divides : (rows : List (List ℕ)) → AreVectors q m rows → (k : ℕ) × (total q m f g rows ≡ (q - 1) * k)
   divides [] h = (
     0,
     sum_by-cons (λ u. g (weight u) (combination q m u [])) [] []
-        ∙ (let e : g 0 (zeros m) ≡ 0 = none (zeros m) in omega arith),
+        ∙ (omega (arith, none (zeros m))),
   )
   divides (r ∷ rows) h =
       let before = divides rows h.1 in
-      let t : ℕ = total q m f (rest q m f g r 1) rows in
-      let all : total q m f g (r ∷ rows)
-      ≡ total q m f (rest q m f g r 0) rows
-      + sum_by (λ c. total q m f (rest q m f g r c) rows) (range_with_len 1 (q - 1)) =
+      let t = total q m f (rest q m f g r 1) rows in
+      let all =
       total-cons q m f g r rows ∙ codes-split q m f (λ c. total q m f (rest q m f g r c) rows) in
-      let first : total q m f (rest q m f g r 0) rows ≡ total q m f g rows = none-first q m f g r rows h.0 h.1 in
-      let others : sum_by (λ c. total q m f (rest q m f g r c) rows) (range_with_len 1 (q - 1)) ≡ (q - 1) * t =
+      let others =
       sum_by-same (λ c. total q m f (rest q m f g r c) rows) (λ c. t) 1 (q - 1)
       (λ c low high. each-code c (omega arith) (omega arith) r h.0 rows h.1)
-      ∙ sum_by-constant t (range_with_len 1 (q - 1)) ∙ ap (λ (n : ℕ). n * t) (length-range_with_len 1 (q - 1)) in
-      (before.0 + t, all ∙ ap₂ (λ (a b : ℕ). a + b) (first ∙ before.1) others ∙ together (q - 1) before.0 t)
+      ∙ sum_by-constant t (range_with_len 1 (q - 1)) ∙ ap (λ n. n * t) (length-range_with_len 1 (q - 1)) in
+      (before.0 + t, cc ((none-first q m f g r rows h.0 h.1), together (q - 1) before.0 t))
     where
       together : (a b c : ℕ) → a * b + a * c ≡ a * (b + c)
       together a b c = grind arith
@@ -74,11 +75,14 @@ module _ (x : Strata) (f : IsField x.q) (room : x.h ≤ x.m) (rows : List ℕ) w
   unclear-scaled : (a : ℕ) (v : List ℕ) → 0 < a → a < x.q → IsVector x.q x.m v
       → is_unclear_sum x (base x) F (scale x.q a v) ≡ is_unclear_sum x (base x) F v
   unclear-scaled a v pos low hv =
-      ap₂ (λ b (n : ℕ). b || nat_lt 1 n) (span-scaled x f room [] [] a v pos low hv)
-      (effects-parts x.q x.m f F (scale x.q a v)
-      ∙ ap₂ (λ (i j : ℕ). i + j) (spread-scaled x.q x.m f a pos low F hF 1 v hv)
-      (spread-scaled x.q x.m f a pos low F hF 2 v hv)
-      ∙ sym (effects-parts x.q x.m f F v))
+      cc (
+        span-scaled x f room [] [] a v pos low hv,
+        effects-parts x.q x.m f F (scale x.q a v),
+        spread-scaled x.q x.m f
+            a pos low F hF 1 v hv,
+        spread-scaled x.q x.m f a pos low F hF 2 v hv,
+        effects-parts x.q x.m f F v,
+      )
 
   pub unclear-divides : (k : ℕ) × (unclear x rows ≡ (x.q - 1) * k)
   unfolding words_in

@@ -1,7 +1,7 @@
 -- What is kept of a prefix says how many words of each kind it has.
 use Rattle.std.proofs.Common.{ℕ, ◌≡◌, ◌<◌, ◌≤◌, ◌+◌, ◌-◌, ◌*◌, ◌^◌, zero, suc, Bool, true, false, List, [], ◌∷◌, ◌++◌}
 use Rattle.std.proofs.Common.{length, take}
-use Rattle.std.proofs.Common.{slice_index, sym, subst, ◌∙◌, ap, ap₂, arith}
+use Rattle.std.proofs.Common.{slice_index, subst, ap, arith}
 use Rattle.std.specs.List.{AllByRecursion}
 use Rattle.std.proofs.lemmas.List.{length_push, take-append-le, take-map, length-take, length-map}
 use Rattle.std.proofs.lemmas.List.{take-take}
@@ -39,15 +39,13 @@ pub extends : (base : Base) (v now : PrefixView) (r i : ℕ) → v ≡ now → b
     → i < now.base.w + now.base.n
     → Extends base v.rows r i
 extends base v now r i same own h tally read rows shape was m below room at =
-    let matrix : IsMatrix tally.shape tally.rows = subst (λ (t : MatrixView). IsMatrix t.shape t.rows) was m in
-    let back : base ≡ now.base = own ∙ ap (λ (z : PrefixView). z.base) same in record {
+    let matrix = rw was at m in
+    let back : base ≡ now.base = cc in record {
       valid = h;
-      low = subst (λ l. AllByRecursion (λ r. r < base.q ^ base.m) l) rows
-          (subst (λ (s : Shape). AllByRecursion (λ r. r < s.q ^ s.m) tally.rows) shape matrix.below);
-      below = subst (λ (b : Base). r < b.q ^ b.m) (sym back) below;
-      room = subst (λ (b : Base). length v.rows < b.w + b.n) (sym back)
-          (subst (λ l. length l < now.base.w + now.base.n) (sym (ap (λ (z : PrefixView). z.rows) same)) room);
-      at = subst (λ (b : Base). i < b.w + b.n) (sym back) at;
+      low = rw rows at (rw shape at matrix.below);
+      below = rw back below;
+      room = rw back (rw (← (ap (λ z. z.rows) same)) at room);
+      at = rw back at;
     }
 
 module _ (base : Base) (rows : List ℕ) (r i : ℕ) (e : Extends base rows r i) where
@@ -55,40 +53,38 @@ module _ (base : Base) (rows : List ℕ) (r i : ℕ) (e : Extends base rows r i)
   valid = e.valid
 
   all-low : AllByRecursion (λ r. r < base.q ^ base.m) (rows ++ r ∷ [])
-  all-low = each-append (λ r. r < base.q ^ base.m) rows (r ∷ []) e.low (e.below, tt)
+  all-low = each-append _ rows _ e.low (e.below, tt)
 
   fits : length (rows ++ r ∷ []) ≤ base.w + base.n
-  fits = omega (arith, length_push rows r, e.room)
+  fits = omega (arith, length_push rows r)
 
   pub constant : words (strata_of base) (rows ++ r ∷ []) false (i + 1)
       ≡ (base.q - 1) * slice_index (pattern_of (dimensions_of (strata_of base)) (rows ++ r ∷ [])) i
   constant =
-      words-false (strata_of base) (field base valid) valid.inside (rows ++ r ∷ [])
-      (each-at (λ r. r < base.q ^ base.m) (rows ++ r ∷ []) all-low) fits i e.at
+      words-false _ (field base valid) valid.inside _
+      (each-at _ _ all-low) fits i e.at
 
   pub confounded : words (strata_of base) (rows ++ r ∷ []) true (i + 1)
       ≡ (base.q - 1)
       * (confounded_at (strata_of base) (rows ++ r ∷ []) i
       - confounded_at (strata_of base) (take base.w (rows ++ r ∷ [])) i)
   confounded =
-      words-true (strata_of base) (field base valid) valid.inside (rows ++ r ∷ [])
-      (each-at (λ r. r < base.q ^ base.m) (rows ++ r ∷ []) all-low) fits i e.at
+      words-true _ (field base valid) valid.inside _
+      (each-at _ _ all-low) fits i e.at
 
   pub confounded-late : base.w ≤ length rows → (noted : ℕ)
       → noted ≡ confounded_at (strata_of base) (take base.w rows) i
       → (base.q - 1) * (confounded_at (strata_of base) (rows ++ r ∷ []) i - noted)
       ≡ words (strata_of base) (rows ++ r ∷ []) true (i + 1)
   confounded-late late noted is =
-      ap (λ n. (base.q - 1) * (confounded_at (strata_of base) (rows ++ r ∷ []) i - n))
-      (is ∙ ap (λ l. confounded_at (strata_of base) l i) (sym (take-append-le base.w rows (r ∷ []) late)))
-      ∙ sym confounded
+      cc (take-append-le base.w rows (r ∷ []) late, confounded)
 
   pub most : (b : Bool) (k : ℕ) → words (strata_of base) (rows ++ r ∷ []) b k ≤ 2 ^ 120
   most b k =
       let few = words-most (strata_of base) (field base valid) valid.inside (rows ++ r ∷ []) b k in
-      let more : base.q ^ length (rows ++ r ∷ []) ≤ base.q ^ (base.w + base.n) =
+      let more =
       pow-le-pow_right (some-levels base valid) fits in
-      omega (arith, few, more, valid.few_words)
+      omega (arith, valid.few_words)
 
 -- what is noted, where the prefix is the same
 pub noted-of : (v u : PrefixView) → v ≡ u → (noted : List ℕ) (i : ℕ)
@@ -97,7 +93,7 @@ pub noted-of : (v u : PrefixView) → v ≡ u → (noted : List ℕ) (i : ℕ)
     → i < u.base.w + u.base.n → u.base.w ≤ length u.rows
     → slice_index noted i ≡ confounded_at (strata_of u.base) (take u.base.w u.rows) i
 noted-of v u same noted i known at late =
-    subst (λ (z : PrefixView). (i : ℕ) → i < z.base.w + z.base.n → z.base.w ≤ length z.rows
+    subst (λ z. (i : ℕ) → i < z.base.w + z.base.n → z.base.w ≤ length z.rows
     → slice_index noted i ≡ confounded_at (strata_of z.base) (take z.base.w z.rows) i) same known i at late
 
 -- one row less
@@ -106,18 +102,16 @@ pub popped : (base : Base) (rows modulo : MatrixView) (noted : List ℕ) (others
     → IsPrefix base (record rows { rows = take (length rows.rows - 1) rows.rows })
     (record modulo { rows = take (length modulo.rows - 1) modulo.rows }) noted others sums
 popped base rows modulo noted others sums h =
-    let k : ℕ = length rows.rows - 1 in
+    let k = length rows.rows - 1 in
     let len : length modulo.rows ≡ length rows.rows =
-    ap (λ (l : List ℕ). length l) h.cosets ∙ length-map rows.rows (coset (strata_of base)) in
+    cc (length-map rows.rows (coset (strata_of base))) in
     let short = length-take k rows.rows in record {
       valid = h.valid;
       shape = h.shape;
       coset_shape = h.coset_shape;
       others_shape = h.others_shape;
       sums_are = h.sums_are;
-      cosets = ap₂ (λ n l. take (n - 1) l) len h.cosets ∙ take-map (coset (strata_of base)) k rows.rows;
-      few = omega (arith, short, h.few);
-      inside = λ i at late. h.inside i at (omega (arith, late, short))
-          ∙ ap (λ l. confounded_at (strata_of base) l i)
-          (sym (take-take base.w k rows.rows (omega (arith, late, short))));
+      cosets = cc (take-map (coset (strata_of base)) k rows.rows);
+      few = omega arith;
+      inside = λ i at late. cc (h.inside i at (omega arith), take-take base.w k rows.rows (omega arith));
     }

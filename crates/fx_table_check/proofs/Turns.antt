@@ -18,9 +18,7 @@ module _ (x : Strata) where
   after-take : (k j : ℕ) (rows : List ℕ) → j ≤ k → after x (take k rows) j ≡ after x rows j
   after-take k zero rows le = refl
   after-take k (suc j) rows le =
-      ap₂ (λ a b. a ++ b)
-      (ap₂ (children_below x) (take-take j k rows (omega arith)) (get_or-take k rows j 0 (omega arith)))
-      (after-take k j rows (omega arith))
+      cc (take-take j k rows (omega arith), get_or-take k rows j 0 (omega arith), after-take k j rows (omega arith))
 
   -- all children of a prefix are done
   pub popped-turns : (rows : List ℕ) (below n k : ℕ) → filter (may_follow x rows) (falling below) ≡ []
@@ -37,15 +35,14 @@ module _ (x : Strata) where
   pub entered : (rows : List ℕ) (row n : ℕ) → n ≡ x.q ^ x.m
       → children x (rows ++ row ∷ []) ++ pending x rows row ≡ pending x (rows ++ row ∷ []) n
   entered rows row n is =
-      let k : ℕ = length rows in
+      let k = length rows in
       let longer : List ℕ = rows ++ row ∷ [] in
-      let front : take k longer ≡ rows =
+      let front =
       take-append-le k rows (row ∷ []) (omega arith) ∙ take_all k rows (omega arith) in
-      let last : slice_index longer k ≡ row = get_or-append_seam rows row [] 0 in
       let rest : after x longer k ≡ after x rows k =
-      sym (after-take k k longer (omega arith)) ∙ ap (λ l. after x l k) front in
+      cc (after-take k k longer (omega arith)) in
       ap₂ (λ a b. children_below x longer a ++ b) (sym is)
-      (ap₂ (λ a b. a ++ b) (ap₂ (children_below x) (sym front) (sym last)) (sym rest))
+      (ap₂ (λ a b. a ++ b) (ap₂ (children_below x) (sym front) (sym (get_or-append_seam rows row [] 0))) (sym rest))
       ∙ ap (λ j. children_below x longer n ++ after x longer j)
       (let e : suc k ≡ length longer = omega (arith, length_push rows row) in e)
 
@@ -55,11 +52,11 @@ module _ (x : Claim) (turns : List (List ℕ)) (i : ℕ) (entries : List Entry) 
   pub no-turn : turns ≡ [] → (e : Entry) → i < length entries → whole ≡ Some (record { place = i; reason = NoTurn })
   unfolding first_flaw
   no-turn none e low =
-      sym so ∙ ap₂ (λ t l. first_flaw x t i l) none (drop_more entries i e low)
+      cc (drop_more entries i e low)
 
   pub all-done : turns ≡ [] → length entries ≤ i → whole ≡ None
   unfolding first_flaw
-  all-done none past = sym so ∙ ap₂ (λ t l. first_flaw x t i l) none (drop-past entries i past)
+  all-done none past = cc (drop-past entries i past)
     where
       drop-past : (l : List Entry) (i : ℕ) → length l ≤ i → drop i l ≡ []
       drop-past [] zero h = refl
@@ -70,7 +67,7 @@ module _ (x : Claim) (turns : List (List ℕ)) (i : ℕ) (entries : List Entry) 
   module _ (c : List ℕ) (others : List (List ℕ)) (next : turns ≡ c ∷ others) where
     pub ended-early : length entries ≤ i → whole ≡ Some (record { place = i; reason = Ended })
     unfolding first_flaw
-    ended-early past = sym so ∙ ap₂ (λ t l. first_flaw x t i l) next (drop-past entries i past)
+    ended-early past = cc (drop-past entries i past)
       where
         drop-past : (l : List Entry) (i : ℕ) → length l ≤ i → drop i l ≡ []
         drop-past [] zero h = refl
@@ -82,17 +79,14 @@ module _ (x : Claim) (turns : List (List ℕ)) (i : ℕ) (entries : List Entry) 
         → whole ≡ or_later i (flaw x c e) (first_flaw x (turns_after x c e others) (i + 1) (drop (i + 1) entries))
     unfolding first_flaw
     step e low is =
-        sym so ∙ ap₂ (λ t l. first_flaw x t i l) next
-        (drop_more entries i e low ∙ ap (λ z. z ∷ drop (i + 1) entries) (sym is))
+        cc (drop_more entries i e low)
 
     pub flawed : (e : Entry) → i < length entries → e ≡ get_or entries i e → (r : Reason) → flaw x c e ≡ Some r
         → whole ≡ Some (record { place = i; reason = r })
     flawed e low is r bad =
-        step e low is ∙ ap (λ f. or_later i f (first_flaw x (turns_after x c e others) (i + 1) (drop (i + 1) entries)))
-        bad
+        cc (step e low is)
 
     pub goes-on : (e : Entry) → i < length entries → e ≡ get_or entries i e → flaw x c e ≡ None
         → first_flaw x (turns_after x c e others) (i + 1) (drop (i + 1) entries) ≡ whole
     goes-on e low is good =
-        sym (step e low is ∙ ap
-        (λ f. or_later i f (first_flaw x (turns_after x c e others) (i + 1) (drop (i + 1) entries))) good)
+        cc (step e low is)

@@ -28,21 +28,20 @@ many-two n high = omega arith
 
 zero-same : (n : ℕ) → eqb (min 2 n) 0 ≡ eqb n 0
 zero-same n = elim (cases_lt n 2) [
-  | inl l ↦ ap (λ (k : ℕ). eqb k 0) (few-same n l)
-  | inr g ↦ ap (λ (k : ℕ). eqb k 0) (many-two n (omega arith)) ∙ sym (ne_eqb n 0 (λ e. omega arith))
+  | inl l ↦ cc (few-same n l)
+  | inr g ↦ cc (many-two n (omega arith), ne_eqb n 0 (λ e. omega arith))
 ]
 
 one-same : (n : ℕ) → eqb (min 2 n) 1 ≡ eqb n 1
 one-same n = elim (cases_lt n 2) [
-  | inl l ↦ ap (λ (k : ℕ). eqb k 1) (few-same n l)
-  | inr g ↦ ap (λ (k : ℕ). eqb k 1) (many-two n (omega arith)) ∙ sym (ne_eqb n 1 (λ e. omega arith))
+  | inl l ↦ cc (few-same n l)
+  | inr g ↦ cc (many-two n (omega arith), ne_eqb n 1 (λ e. omega arith))
 ]
 
 two-same : (n : ℕ) → nat_lt (min 2 n) 2 ≡ nat_lt n 2
 two-same n = elim (cases_lt n 2) [
-  | inl l ↦ ap (λ (k : ℕ). nat_lt k 2) (few-same n l)
-  | inr g ↦ ap (λ (k : ℕ). nat_lt k 2) (many-two n (omega arith))
-      ∙ sym (false_from_ne_true (nat_lt n 2) (λ t. let l : n < 2 = ltb-true n 2 t in omega arith))
+  | inl l ↦ cc (few-same n l)
+  | inr g ↦ cc (many-two n (omega arith), false_from_ne_true (nat_lt n 2) (λ t. omega (arith, ltb-true n 2 t)))
 ]
 
 -- the sum of counts up to 2, up to 2
@@ -61,66 +60,57 @@ module _ (x : Strata) (f : IsField x.q) (room : x.h ≤ x.m) (rows : List ℕ) (
   told = live_by_tallies x f rows r room top
 
   pub inside-dead : r < x.q ^ x.h → false ≡ is_live x rows (digits x.q x.m r)
-  inside-dead low = sym (told ∙ ap (λ t. not t && (one-less && two-less)) (lt-ltb r (x.q ^ x.h) low))
+  inside-dead low = cc (told, lt-ltb r _ low)
 
   outside : x.q ^ x.h ≤ r → nat_lt r (x.q ^ x.h) ≡ false
   outside high =
-      false_from_ne_true (nat_lt r (x.q ^ x.h)) (λ t. let l : r < x.q ^ x.h = ltb-true r (x.q ^ x.h) t in omega arith)
+      false_from_ne_true _ (λ t. omega (arith, ltb-true r _ t))
 
   pub multiple-dead : x.q ^ x.h ≤ r → (a ≡ 0 → ⊥) → false ≡ is_live x rows (digits x.q x.m r)
   multiple-dead high some =
-      sym (told ∙ ap (λ t. not t && (one-less && two-less)) (outside high)
-      ∙ ap (λ t. t && two-less)
-      (sym (zero-same (sums_at x rows 1 r)) ∙ ap (λ (k : ℕ). eqb k 0) (sym one) ∙ ne_eqb a 0 some))
+      cc (told, outside high, zero-same (sums_at x rows 1 r), ne_eqb a 0 some)
 
   pub others-live : x.q ^ x.h ≤ r → a ≡ 0 → nat_lt b 2 ≡ is_live x rows (digits x.q x.m r)
   others-live high none =
-      ap (λ (k : ℕ). nat_lt k 2) two ∙ two-same (sums_at x rows 2 r)
-      ∙ sym (told ∙ ap (λ t. not t && (one-less && two-less)) (outside high)
-      ∙ ap (λ t. t && two-less)
-      (sym (zero-same (sums_at x rows 1 r)) ∙ ap (λ (k : ℕ). eqb k 0) (sym one) ∙ eq-eqb a 0 none))
+      cc (two-same (sums_at x rows 2 r), told, outside high, zero-same (sums_at x rows 1 r), eq-eqb a 0 none)
 
   like : number x.q (digits x.q x.m r) ≡ r
-  like = number-digits x.q x.m r (omega (arith, f.more_than_one)) top
+  like = number-digits x.q x.m r (omega arith) top
 
   pub live-clear : is_live x rows (digits x.q x.m r) ≡ true → eqb b 1 ≡ is_clear_sum x rows (digits x.q x.m r)
   live-clear live =
-      ap (λ (k : ℕ). eqb k 1) two ∙ one-same (sums_at x rows 2 r)
-      ∙ sym (ap (λ t. t && eqb (sums_at x rows 2 (number x.q (digits x.q x.m r))) 1) live
-      ∙ ap (λ (k : ℕ). eqb (sums_at x rows 2 k) 1) like)
+      cc (one-same (sums_at x rows 2 r), like)
 
 -- a row makes a constant word of three factors where a word of two has it as its sum
 pub makes-three : (x : Strata) (f : IsField x.q) → x.h ≤ x.m → (rows : List ℕ) (r : ℕ) → r < x.q ^ x.m
     → x.w ≤ length rows
     → nat_lt 0 (new_words x rows r false 3) ≡ nat_lt 0 (sums_at x rows 2 r)
 makes-three x f room rows r top long =
-    let new : new_words x rows r false 3 ≡ (x.q - 1) * sums_at x rows 2 r =
+    let new =
     (new_words_by_spreads x f rows r 3 room long top (omega arith)).constant in
-    ap (λ (k : ℕ). nat_lt 0 k) new ∙ times (x.q - 1) (sums_at x rows 2 r) (omega (arith, f.more_than_one))
+    cc (times (x.q - 1) (sums_at x rows 2 r) (omega arith))
   where
     times : (c n : ℕ) → 0 < c → nat_lt 0 (c * n) ≡ nat_lt 0 n
-    times c zero pos = ap (λ (k : ℕ). nat_lt 0 k) (let e : c * 0 ≡ 0 = omega arith in e)
+    times c zero pos = ap (nat_lt 0) (let e : c * 0 ≡ 0 = omega arith in e)
     times c (suc n) pos =
         let more : c * suc n ≡ c * n + c = grind arith in
-        lt-ltb 0 (c * suc n) (omega arith) ∙ sym (lt-ltb 0 (suc n) (omega arith))
+        cc (lt-ltb 0 (c * suc n) (omega arith), lt-ltb 0 (suc n) (omega arith))
 
 pub none-start : (q m x : ℕ) → (x ≡ 0 → ⊥) → 0 ≡ min 2 (spread q m [] 0 x)
 none-start q m x some =
-    ap (min 2) (sym (spread-start q m 0 x ∙ ap (λ b. cond {A = ℕ} (b && true) 1 0) (ne_eqb 0 x (λ e. some (sym e)))))
+    cc (spread-start q m 0 x, ne_eqb 0 x (λ e. some (sym e)))
 
 pub zero-start : (q m : ℕ) → 1 ≡ min 2 (spread q m [] 0 0)
-zero-start q m = ap (min 2) (sym (spread-start q m 0 0))
+zero-start q m = cc (spread-start q m 0 0)
 
 pub heavy-start : (q m k x : ℕ) → 0 ≡ min 2 (spread q m [] (suc k) x)
 heavy-start q m k x =
-    ap (min 2)
-    (sym (spread-start q m (suc k) x ∙ ap (λ b. cond {A = ℕ} b 1 0)
-    (and_right (eqb 0 x) (eqb 0 (suc k)) (ne_eqb 0 (suc k) (λ e. omega arith)))))
+    cc (spread-start q m (suc k) x, and_right (eqb 0 x) _ (ne_eqb 0 (suc k) (λ e. omega arith)))
 
 -- the word of no factor is the same over each rows
 pub none-more : (q m : ℕ) → IsField q → (rows : List ℕ) (r n x : ℕ) → x < q ^ m
     → n ≡ min 2 (spread q m (vectors_of q m rows) 0 x) → n ≡ min 2 (spread q m (vectors_of q m (rows ++ r ∷ [])) 0 x)
-none-more q m f rows r n x low is = is ∙ ap (min 2) (spread-none q m f rows r 0 x refl low)
+none-more q m f rows r n x low is = cc (spread-none q m f rows r 0 x refl low)
 
 -- what the entry c for a row adds to a count
 pub moved-count : (q m : ℕ) (rows : List ℕ) (r k c y n l : ℕ) → 0 < c
@@ -132,7 +122,7 @@ moved-count q m rows r k c y n l pos before light =
     let less : spread q m (vectors_of q m rows) (k + 1 - 1) (difference q m y c r)
     ≡ spread q m (vectors_of q m rows) k (difference q m y c r) =
     ap (λ j. spread q m (vectors_of q m rows) j (difference q m y c r)) (let e : k + 1 - 1 ≡ k = omega arith in e) in
-    ap₂ (λ (a b : ℕ). min 2 (a + b)) before light
+    ap₂ (λ a b. min 2 (a + b)) before light
     ∙ min-sum (so_far q m rows r (k + 1) y c) (spread q m (vectors_of q m rows) k (difference q m y c r))
     ∙ ap (min 2) (let e : so_far q m rows r (k + 1) y c + spread q m (vectors_of q m rows) k (difference q m y c r)
     ≡ so_far q m rows r (k + 1) y (c + 1) = omega arith in e)
@@ -156,7 +146,7 @@ pub count-true : (p : ℕ → Bool) (n c : ℕ) → c ≡ count_by p (range_with
 count-true p n c is t =
     let next = count-next p 0 n in
     let here : p (0 + n) ≡ p n = ap p (omega arith) in
-    let one : cond {A = ℕ} (p (0 + n)) 1 0 ≡ 1 = ap (λ b. cond {A = ℕ} b 1 0) (here ∙ t) in
+    let one : cond {A = ℕ} (p (0 + n)) 1 0 ≡ 1 = cc in
     let more : c + 1 ≡ count_by p (range_with_len 0 (suc n)) = omega arith in
     more ∙ ap (λ k. count_by p (range_with_len 0 k)) (let e : suc n ≡ n + 1 = omega arith in e)
 
@@ -165,7 +155,7 @@ pub count-false : (p : ℕ → Bool) (n c : ℕ) → c ≡ count_by p (range_wit
 count-false p n c is o =
     let next = count-next p 0 n in
     let here : p (0 + n) ≡ p n = ap p (omega arith) in
-    let none : cond {A = ℕ} (p (0 + n)) 1 0 ≡ 0 = ap (λ b. cond {A = ℕ} b 1 0) (here ∙ o) in
+    let none : cond {A = ℕ} (p (0 + n)) 1 0 ≡ 0 = cc in
     let same : c ≡ count_by p (range_with_len 0 (suc n)) = omega arith in
     same ∙ ap (λ k. count_by p (range_with_len 0 k)) (let e : suc n ≡ n + 1 = omega arith in e)
 
@@ -176,11 +166,10 @@ module _ (later spare : ℕ → Bool) (n : ℕ) where
 
   later-more : later n ≡ true → counted (suc n) ≡ cond {A = ℕ} (spare n) 1 0 + counted n
   later-more t =
-      ap (λ b. count_by spare (cond b (n ∷ filter later (falling n)) (filter later (falling n)))) t
-      ∙ sum_by-cons (λ r. cond {A = ℕ} (spare r) 1 0) n (filter later (falling n))
+      cc (sum_by-cons (λ r. cond {A = ℕ} (spare r) 1 0) n (filter later (falling n)))
 
   pub later-spare : later n ≡ true → spare n ≡ true → counted (suc n) ≡ 1 + counted n
-  later-spare t s = later-more t ∙ ap (λ b. cond {A = ℕ} b 1 0 + counted n) s
+  later-spare t s = cc (later-more t)
 
   pub later-taking : later n ≡ true → spare n ≡ false → counted (suc n) ≡ counted n
   later-taking t s = later-more t ∙ ap (λ b. cond {A = ℕ} b 1 0 + counted n) s ∙ (omega arith)

@@ -5,7 +5,7 @@ use Rattle.fx_points.specs.Points.{has}
 use Rattle.fx_alias.proofs.blocked.is_blocked.Goals as goal
 
 not_constant : (constant blocked : Bool) → constant ≡ false → (not constant && blocked) ≡ blocked
-not_constant constant blocked is = ap (λ b. not b && blocked) is
+not_constant constant blocked is = cc
 
 pub returns-then-class_number-ne0 : goal.returns-then-class_number-ne0
 returns-then-class_number-ne0 c =

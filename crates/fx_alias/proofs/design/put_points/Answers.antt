@@ -1,4 +1,4 @@
-use Rattle.std.proofs.Common.{◌++◌, ◌∷◌, [], ◌∙◌, ℕ, List, sym, ap, append_assoc, append-nil}
+use Rattle.std.proofs.Common.{◌∷◌, [], append_assoc, append-nil}
 use Rattle.std.specs.List.{flat_map, range_with_len}
 use Rattle.std.proofs.lemmas.Grind.{flat_map-append}
 use Rattle.fx_runs.proofs.Grouping.{next_place}
@@ -7,11 +7,15 @@ use Rattle.fx_alias.proofs.design.put_points.Goals as goal
 
 pub loop-k-preserved : goal.loop-k-preserved
 loop-k-preserved c =
-    let line : ℕ → List ℕ = point_line c.args.runs.now in
-    let done : List ℕ = range_with_len 0 c.loop-k.k in
-    c.in_ok-put_point.ensures ∙ ap (λ (l : List ℕ). l ++ line c.loop-k.k) c.loop-k.invariant
-    ∙ append_assoc c.args.out.now (flat_map line done) (line c.loop-k.k)
-    ∙ ap (λ (l : List ℕ). c.args.out.now ++ l)
-    (ap (λ (l : List ℕ). flat_map line done ++ l) (sym (append-nil (line c.loop-k.k))) ∙ sym
-    (flat_map-append line done (c.loop-k.k ∷ []))
-    ∙ ap (flat_map line) (next_place c.loop-k.k))
+    let line = point_line c.args.runs.now in
+    let done = range_with_len 0 c.loop-k.k in
+    cc (
+      c.in_ok-put_point.ensures,
+      c.loop-k.invariant,
+      append_assoc c.args.out.now (flat_map line done)
+          (line c.loop-k.k),
+      append-nil (line c.loop-k.k),
+      flat_map-append line done (c.loop-k.k ∷ []),
+      next_place
+          c.loop-k.k,
+    )

@@ -16,4 +16,4 @@ put_fold-requires-clause-complete c =
     let none =
     c.requires.unblocked
     (unblocked c.args.step.now.settings.blocks (c.args.step.now.fold_fits c.in-Factors.folded c.in-Factors.is).1) in
-    omega (arith, c.requires.complete, none)
+    omega arith

@@ -1,9 +1,9 @@
-use Rattle.std.proofs.Common.{◌≡◌, ◌++◌, ◌∙◌, ℕ, List, [], length, map, append_assoc, arith, ap, subst}
-use Rattle.std.specs.Prelude.{OnOk, codes}
+use Rattle.std.proofs.Common.{◌≡◌, ◌++◌, ◌∙◌, ℕ, List, [], length, map, append_assoc, arith, ap}
+use Rattle.std.specs.Prelude.{codes}
 use Rattle.std.proofs.lemmas.List.FromFn.{length-map-range_with_len}
 use Rattle.fx_designs.specs.Vectors.{vectors_of}
 use Rattle.fx_words.proofs.Levels.{length-vectors}
-use Rattle.fx_foldover.specs.Foldovers.{combined_pattern, combined_words}
+use Rattle.fx_foldover.specs.Foldovers.{combined_pattern}
 use Rattle.fx_components.specs.Products.{product}
 use Rattle.fx_alias.specs.Heads.{resolution_line}
 use Rattle.fx_alias.specs.Patterns.{words_lines}
@@ -13,7 +13,7 @@ use Rattle.fx_alias.proofs.fold.put_fold.Goals as goal
 combined-length : (m : ℕ) (fold : List ℕ) (factors : List (List ℕ))
     → length (combined_pattern m fold factors) ≡ length factors
 unfolding combined_pattern
-combined-length m fold factors = length-map-range_with_len (combined_words m fold factors) 1 (length factors)
+combined-length m fold factors = length-map-range_with_len _ 1 _
 
 grouped : (out front names line resolution words : List ℕ)
     → ((((out ++ front) ++ names) ++ line) ++ resolution) ++ words
@@ -22,31 +22,30 @@ grouped out front names line resolution words = simp append_assoc
 
 pub put_resolution_of-requires : goal.put_resolution_of-requires
 put_resolution_of-requires c =
-    let m : ℕ = c.args.matrix.now.shape.m in
-    let rows : List ℕ = c.args.matrix.now.rows in
-    let len : length c.in_ok-pattern.pattern ≡ length (vectors_of 2 m rows) =
+    let m = c.args.matrix.now.shape.m in
+    let rows = c.args.matrix.now.rows in
+    let len =
     ap length c.in_ok-pattern.ensures ∙ combined-length m c.args.folded.now (vectors_of 2 m rows) in
-    let s : c.shape-shape.result.s ≡ c.args.matrix.now.shape.s = ap (λ z. z.s) c.shape-shape.ensures.shape in
-    omega (arith, len, length-vectors 2 m rows, c.requires.complete, s, c.shape-shape.ensures.rows)
+    let s : c.shape-shape.result.s ≡ c.args.matrix.now.shape.s = cc c.shape-shape.ensures.shape in
+    omega (arith, length-vectors 2 m rows)
 
 pub returns : goal.returns
 returns c =
-    let out : List ℕ = c.args.out.now in
-    let front : List ℕ = codes "foldover " in
-    let line : List ℕ = codes "\n  " in
-    let named : List ℕ = product c.args.factors.now c.args.folded.now in
+    let front = codes "foldover " in
+    let line = codes "\n  " in
+    let named = product c.args.factors.now c.args.folded.now in
     let resolution : List ℕ → List ℕ = λ a. resolution_line [] a in
     let words : List ℕ → List ℕ = λ a. words_lines (codes "B") 1 a in
-    let pattern : List ℕ = c.in_ok-pattern.pattern in
+    let pattern = c.in_ok-pattern.pattern in
     let names = c.in_ok-put_product.ensures
-    ∙ ap (λ (l : List (List ℕ)). c.put.new.out ++ product l c.args.folded.now)
+    ∙ ap (λ l. c.put.new.out ++ product l c.args.folded.now)
     (ap (map (λ n. n.now)) c.as_slice.ensures.value ∙ c.in_ok-names.ensures) in
     let all =
-    ap (λ (l : List ℕ). l ++ words pattern)
+    ap (λ l. l ++ words pattern)
     (c.in_ok-put_resolution_of.ensures
-    ∙ ap (λ (l : List ℕ). l ++ resolution pattern)
+    ∙ ap (λ l. l ++ resolution pattern)
     (c.in_ok-put-2.ensures.ok
-    ∙ ap (λ (l : List ℕ). l ++ line) (names ∙ ap (λ (l : List ℕ). l ++ named) c.in_ok-put.ensures.ok)))
-    ∙ grouped out front named line (resolution pattern) (words pattern)
-    ∙ ap (λ (a : List ℕ). out ++ (front ++ (named ++ (line ++ (resolution a ++ words a))))) c.in_ok-pattern.ensures in
-    subst (λ (l : List ℕ). OnOk c.put_words.result (c.put_words.new.out ≡ l)) all c.put_words.ensures
+    ∙ ap (λ l. l ++ line) (names ∙ ap (λ l. l ++ named) c.in_ok-put.ensures.ok)))
+    ∙ grouped c.args.out.now front named line (resolution pattern) (words pattern)
+    ∙ ap (λ a. c.args.out.now ++ (front ++ (named ++ (line ++ (resolution a ++ words a))))) c.in_ok-pattern.ensures in
+    rw all at c.put_words.ensures

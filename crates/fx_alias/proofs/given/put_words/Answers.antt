@@ -1,5 +1,5 @@
 use Rattle.std.proofs.Common.{◌≡◌, ◌≤◌, ◌<◌, ◌+◌, ◌++◌, ◌∙◌, ℕ, List, length, drop, get_or, slice_index_or, append-nil}
-use Rattle.std.proofs.Common.{refl, sym, ap, arith, add-one, drop-cons}
+use Rattle.std.proofs.Common.{sym, ap, arith, add-one, drop-cons}
 use Rattle.std.specs.Prelude.{◌==◌, if◌then◌else◌, codes, decimal}
 use Rattle.std.proofs.Math.ListN.{drop_of_length-le}
 use Rattle.fx_alias.specs.Given.{block_words_text}
@@ -13,23 +13,22 @@ before k x rest = if x == 0 then rest else codes " B" ++ (decimal k ++ (codes " 
 one_more : (b : List ℕ) (i : ℕ) → i < length b
     → block_words_text (i + 1) (drop i b)
     ≡ before (i + 1) (get_or b i 0) (block_words_text (i + 1 + 1) (drop (i + 1) b))
-one_more b i low = rw (add-one i, drop-cons b i 0 low) refl
+one_more b i low = rw (add-one i, drop-cons b i 0 low)
 
 pub loop-i-preserved : goal.loop-i-preserved
 loop-i-preserved c =
-    let b : List ℕ = c.args.words.now in
-    let i : ℕ = c.loop-i.i in
-    let low : i < length b = omega (arith, c.loop-i-test.true, ap length c.as_slice-words.ensures) in
-    let here : slice_index_or c.as_slice-words.result.now i 0 ≡ get_or b i 0 =
-    ap (λ (v : List ℕ). slice_index_or v i 0) c.as_slice-words.ensures in
-    let rest : List ℕ = block_words_text (i + 1 + 1) (drop (i + 1) b) in
-    c.in_ok-put_weight.ensures rest
-    ∙ ap (λ x. c.loop-i.out ++ before (i + 1) x rest) here
-    ∙ ap (λ (l : List ℕ). c.loop-i.out ++ l) (sym (one_more b i low)) ∙ c.loop-i.invariant
+    let b = c.args.words.now in
+    let here =
+    ap (λ (v : List ℕ). slice_index_or v c.loop-i.i 0) c.as_slice-words.ensures in
+    let rest = block_words_text (c.loop-i.i + 1 + 1) (drop (c.loop-i.i + 1) b) in
+    cc (
+      c.in_ok-put_weight.ensures rest,
+      one_more b c.loop-i.i (omega (arith, ap length c.as_slice-words.ensures)),
+      c.loop-i.invariant,
+    )
 
 pub returns : goal.returns
 returns c =
-    let b : List ℕ = c.args.words.now in
-    let past : length b ≤ c.loop-i.i = omega (arith, c.loop-i-test.false, ap length c.as_slice-words.ensures) in
-    sym (append-nil c.loop-i.out) ∙ ap (λ (l : List ℕ). c.loop-i.out ++ block_words_text (c.loop-i.i + 1) l)
-    (sym (drop_of_length-le b past)) ∙ c.loop-i.invariant
+    let past : length c.args.words.now ≤ c.loop-i.i = omega (arith, ap length c.as_slice-words.ensures) in
+    sym (append-nil c.loop-i.out) ∙ ap (λ l. c.loop-i.out ++ block_words_text (c.loop-i.i + 1) l)
+    (sym (drop_of_length-le c.args.words.now past)) ∙ c.loop-i.invariant

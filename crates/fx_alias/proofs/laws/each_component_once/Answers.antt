@@ -11,6 +11,6 @@ pub returns : goal.returns
 returns c q m rows components test known =
     let field = is_order-field q known in
     let f : List ℕ → ℕ = λ u. cond (test u) 1 0 in
-    ap₂ (λ (a : List (List ℕ)) (b : List (List (List ℕ))). sum_by f a + sum_by (λ l. sum_by f l) b)
+    ap₂ (λ a b. sum_by f a + sum_by (sum_by f) b)
     (constants_by_number q field m rows components) (classes_numbered q field m rows components)
     ∙ each_once (λ u. class_number q (combination q m u (vectors_of q m rows))) components f

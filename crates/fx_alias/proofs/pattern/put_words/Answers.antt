@@ -1,5 +1,5 @@
 use Rattle.std.proofs.Common.{◌≡◌, ◌≤◌, ◌<◌, ◌+◌, ◌++◌, ◌∙◌, ℕ, List, length, drop, get_or, slice_index_or, append-nil}
-use Rattle.std.proofs.Common.{refl, sym, ap, arith, add-one, drop-cons}
+use Rattle.std.proofs.Common.{sym, ap, arith, add-one, drop-cons}
 use Rattle.std.specs.Prelude.{◌==◌, if◌then◌else◌}
 use Rattle.std.proofs.Math.ListN.{drop_of_length-le}
 use Rattle.fx_alias.specs.Patterns.{words_line, words_lines}
@@ -11,27 +11,23 @@ one_more : (letter a : List ℕ) (i : ℕ) → i < length a
     ≡ (if get_or a i 0 == 0
     then words_lines letter (i + 1 + 1) (drop (i + 1) a)
     else words_line letter (i + 1) (get_or a i 0) ++ words_lines letter (i + 1 + 1) (drop (i + 1) a))
-one_more letter a i low = rw (add-one i, drop-cons a i 0 low) refl
+one_more letter a i low = rw (add-one i, drop-cons a i 0 low)
 
 pub loop-i-preserved : goal.loop-i-preserved
 loop-i-preserved c =
-    let letter : List ℕ = c.args.letter.now in
-    let a : List ℕ = c.args.pattern.now in
-    let i : ℕ = c.loop-i.i in
-    let low : i < length a = omega (arith, c.loop-i-test.true, ap length c.as_slice-words.ensures) in
-    let here : slice_index_or c.as_slice-words.result.now i 0 ≡ get_or a i 0 =
-    ap (λ (v : List ℕ). slice_index_or v i 0) c.as_slice-words.ensures in
-    c.in_ok-put_weight.ensures (words_lines letter (i + 1 + 1) (drop (i + 1) a))
-    ∙ ap (λ x. c.loop-i.out
-    ++ (if x == 0
-    then words_lines letter (i + 1 + 1) (drop (i + 1) a)
-    else words_line letter (i + 1) x ++ words_lines letter (i + 1 + 1) (drop (i + 1) a))) here
-    ∙ ap (λ (l : List ℕ). c.loop-i.out ++ l) (sym (one_more letter a i low)) ∙ c.loop-i.invariant
+    let letter = c.args.letter.now in
+    let a = c.args.pattern.now in
+    let here =
+    ap (λ (v : List ℕ). slice_index_or v c.loop-i.i 0) c.as_slice-words.ensures in
+    cc (
+      c.in_ok-put_weight.ensures (words_lines letter (c.loop-i.i + 1 + 1) (drop (c.loop-i.i + 1) a)),
+      one_more letter
+          a c.loop-i.i (omega (arith, ap length c.as_slice-words.ensures)),
+      c.loop-i.invariant,
+    )
 
 pub returns : goal.returns
 returns c =
-    let letter : List ℕ = c.args.letter.now in
-    let a : List ℕ = c.args.pattern.now in
-    let past : length a ≤ c.loop-i.i = omega (arith, c.loop-i-test.false, ap length c.as_slice-words.ensures) in
-    sym (append-nil c.loop-i.out) ∙ ap (λ (l : List ℕ). c.loop-i.out ++ words_lines letter (c.loop-i.i + 1) l)
-    (sym (drop_of_length-le a past)) ∙ c.loop-i.invariant
+    let past : length c.args.pattern.now ≤ c.loop-i.i = omega (arith, ap length c.as_slice-words.ensures) in
+    sym (append-nil c.loop-i.out) ∙ ap (λ l. c.loop-i.out ++ words_lines c.args.letter.now (c.loop-i.i + 1) l)
+    (sym (drop_of_length-le c.args.pattern.now past)) ∙ c.loop-i.invariant

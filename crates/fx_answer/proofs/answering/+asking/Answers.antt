@@ -1,18 +1,16 @@
-use Rattle.std.proofs.Common.{rules, ℕ, ◌≡◌, ◌<◌, ◌+◌, ◌-◌, List, [], ◌∷◌, ◌++◌, length, None, is_some, sym, ap, ◌∙◌}
-use Rattle.std.proofs.Common.{subst, arith}
-use Rattle.std.specs.Option.{option_or}
+use Rattle.std.proofs.Common.{rules, ℕ, ◌≡◌, ◌+◌, ◌-◌, List, [], ◌∷◌, ◌++◌, length, None, is_some, sym, ap, ◌∙◌}
+use Rattle.std.proofs.Common.{arith}
 use Rattle.std.proofs.lemmas.Result.{IfOk-weaker}
 use Rattle.fx_designs.specs.Jobs.{carried}
 use Rattle.fx_designs.specs.Answers.{answer}
 use Rattle.fx_designs.specs.Nodes.{nodes}
 use Rattle.fx_designs.specs.Problems.{Problem}
-use Rattle.fx_search.specs.FactorRows.{AreForbidden}
 use Rattle.fx_search.specs.Standing as fx_search
 use Rattle.fx_statements.specs.Steps.{meaning_of}
 use Rattle.fx_statements.specs.Questions.{cut_short, found_by, last_found, nodes_of, question_for, reached_beside}
 use Rattle.fx_statements.specs.Questions.{until}
 use Rattle.fx_statements.proofs.Concluded.{nodes_more}
-use Rattle.fx_answer.specs.Standing.{StandsFor, books_in_asking, conclusion_in_asking, questions_above}
+use Rattle.fx_answer.specs.Standing.{books_in_asking, conclusion_in_asking, questions_above}
 use Rattle.fx_answer.proofs.Answered.{found-of, found-reached, found-stands, found-whole, left-is-whole, left-of}
 use Rattle.fx_answer.proofs.Answered.{left-stands, nothing-reached, nothing-stands}
 use Rattle.fx_answer.proofs.Asking.{books_so_far, come_more, ended, past}
@@ -21,23 +19,18 @@ use Rattle.fx_answer.proofs.answering.+asking.Goals as goal
 -- the nodes of the question that is finished now
 more : (earlier : List Problem) (p : Problem) (before count : ℕ) → before ≡ nodes_of earlier → count ≡ length (nodes p)
     → before + count ≡ nodes_of (earlier ++ p ∷ [])
-more earlier p before count is counted = let e = nodes_more earlier p in omega (arith, e, is, counted)
+more earlier p before count is counted = let e = nodes_more earlier p in omega arith
 
 pub ask_from-ask_after-requires-clause-words : goal.ask_from-ask_after-requires-clause-words
 ask_from-ask_after-requires-clause-words g t c lifetimes live =
-    subst (λ p. AreForbidden p c.args.words.now) (sym c.in_ok-question.ensures.problem) (c.requires.words c.args.n)
+    rw c.in_ok-question.ensures.problem (c.requires.words c.args.n)
 
 pub ask_from-go_on-requires : goal.ask_from-go_on-requires
 ask_from-go_on-requires g t c lifetimes live =
-    let question = c.in_ok-question.question in
     let p = question_for (meaning_of c.args.step.now) c.args.n in
-    let same = c.in_ok-question.ensures.problem in
     let h = rw c.in-Found.is at c.in_ok-matrix.ensures.answer in
-    let of = c.in_ok-question.ensures.of_step in
-    let answered = sym (ap is_some (ap answer (sym same) ∙ h.0)) in
-    let found = found-of question c.in-Found.matrix h.0 h.1 (meaning_of c.args.step.now) of in
-    let dimensions = sym (ap (λ (p : Problem). p.dimensions) same) in (
-      omega (arith, c.decreases),
+    let dimensions = sym (ap (λ p. p.dimensions) c.in_ok-question.ensures.problem) in (
+      omega arith,
       (
         live.0,
         (
@@ -55,8 +48,22 @@ ask_from-go_on-requires g t c lifetimes live =
                     (
                       c.requires.words,
                       (
-                        omega (arith, c.requires.within, h.4),
-                        (of, (dimensions, (answered, (found, found-whole question c.in-Found.matrix h.0 h.1)))),
+                        omega arith,
+                        (
+                          c.in_ok-question.ensures.of_step,
+                          (
+                            dimensions,
+                            (
+                              sym (ap is_some (ap answer (sym c.in_ok-question.ensures.problem) ∙ h.0)),
+                              (
+                                found-of c.in_ok-question.question c.in-Found.matrix h.0 h.1 _
+                                    c.in_ok-question.ensures.of_step,
+                                found-whole c.in_ok-question.question
+                                    c.in-Found.matrix h.0 h.1,
+                              ),
+                            ),
+                          ),
+                        ),
                       ),
                     ),
                   ),
@@ -139,62 +146,60 @@ pub ask_from-cut_short-requires-clause-whole : goal.ask_from-cut_short-requires-
 ask_from-cut_short-requires-clause-whole g t c =
     let h = rw c.in-Budget.is at c.in_ok-matrix.ensures.answer in
     rw c.or.ensures
-    (left-is-whole c.in_ok-question.question (c.args.step.now.settings.budget - c.args.finished.nodes) c.in-Budget.best
+    (left-is-whole c.in_ok-question.question _ c.in-Budget.best
     c.args.finished.found h.1 h.2 c.requires.whole)
 
 pub ask_from-returns-in-Budget-clause-of_step : goal.ask_from-returns-in-Budget-clause-of_step
 ask_from-returns-in-Budget-clause-of_step g t c =
     let h = rw c.in-Budget.is at c.in_ok-matrix.ensures.answer in
-    let of = c.in_ok-question.ensures.of_step in
-    c.cut_short.ensures.of_step (meaning_of c.args.step.now) of
+    c.cut_short.ensures.of_step (meaning_of c.args.step.now) c.in_ok-question.ensures.of_step
     (rw c.or.ensures
     (left-of c.in_ok-question.question (c.args.step.now.settings.budget - c.args.finished.nodes)
-    (meaning_of c.args.step.now)
-    c.in-Budget.best c.args.finished.found h.2 of c.requires.found))
+    _
+    c.in-Budget.best c.args.finished.found h.2 c.in_ok-question.ensures.of_step c.requires.found))
 
 pub ask_from-returns-in-Budget-clause-concluded : goal.ask_from-returns-in-Budget-clause-concluded
 ask_from-returns-in-Budget-clause-concluded g t c = λ earlier is stands before.
     let step = meaning_of c.args.step.now in
-    let question = c.in_ok-question.question in
     let p = question_for step c.args.n in
     let same = c.in_ok-question.ensures.problem in
     let budget = c.args.step.now.settings.budget in
     let nodes_before = c.args.finished.nodes in
     let found_before = c.args.finished.found in
     let h = rw c.in-Budget.is at c.in_ok-matrix.ensures.answer in
-    let spent : budget - nodes_before ≡ budget - nodes_of earlier = ap (λ n. budget - n) is in
-    let passed : budget - nodes_before < length (nodes p) =
-    subst (λ p. budget - nodes_before < length (nodes p)) same h.0 in
+    let spent : budget - nodes_before ≡ budget - nodes_of earlier = cc in
+    let passed =
+    rw same at h.0 in
     let left = found_by (last_found None earlier) p (carried p (budget - nodes_of earlier)) in
-    let found : StandsFor (option_or c.in-Budget.best found_before) left =
-    subst (λ n. StandsFor (option_or c.in-Budget.best found_before)
-    (found_by (last_found None earlier) p (carried p n))) spent
-    (left-stands question (budget - nodes_before) c.in-Budget.best found_before (last_found None earlier) p h.1 h.2 same
+    let found =
+    rw spent at (left-stands c.in_ok-question.question _ c.in-Budget.best found_before _ p h.1 h.2 same
     stands) in
     let carried_is : fx_search.best_rows c.in-Budget.best ≡ carried p (budget - nodes_of earlier) =
-    h.1 ∙ ap (λ p. carried p (budget - nodes_before)) same ∙ ap (carried p) spent in
+    cc in
     let reached : c.reached_beside-reached.result ≡ reached_beside (carried p (budget - nodes_of earlier))
     (last_found None earlier) =
-    c.reached_beside-reached.ensures (last_found None earlier) before
-    ∙ ap (λ left. reached_beside left (last_found None earlier)) carried_is in
-    c.cut_short.ensures.concluded p left (sym (ap (λ (p : Problem). p.dimensions) same)) (rw c.or.ensures found)
-    ∙ ap (λ n. cut_short p left n budget) reached
-    ∙ sym (ended (conclusion_in_asking step) budget (until step.settings.size) earlier p (questions_above step c.args.n)
-    (omega (arith, is, passed, c.requires.within)))
+    cc (c.reached_beside-reached.ensures (last_found None earlier) before) in
+    cc (
+      c.cut_short.ensures.concluded p left (sym (ap (λ p. p.dimensions) same)) (rw c.or.ensures found),
+      ended
+          (conclusion_in_asking step) budget (until step.settings.size) earlier p (questions_above step c.args.n)
+          (omega arith),
+    )
 
 pub ask_from-returns-in-Budget-clause-books : goal.ask_from-returns-in-Budget-clause-books
 ask_from-returns-in-Budget-clause-books g t c = λ earlier is come before.
     let step = meaning_of c.args.step.now in
     let p = question_for step c.args.n in
-    let same = c.in_ok-question.ensures.problem in
     let budget = c.args.step.now.settings.budget in
     let h = rw c.in-Budget.is at c.in_ok-matrix.ensures.answer in
-    let passed : budget - c.args.finished.nodes < length (nodes p) =
-    subst (λ p. budget - c.args.finished.nodes < length (nodes p)) same h.0 in
-    c.cut_short.ensures.books
-    ∙ (before
-    ∙ sym (ended books_in_asking budget (until step.settings.size) earlier p (questions_above step c.args.n)
-    (omega (arith, is, passed, c.requires.within))))
+    let passed =
+    rw c.in_ok-question.ensures.problem at h.0 in
+    cc (
+      c.cut_short.ensures.books,
+      ended books_in_asking budget (until step.settings.size) earlier p
+          (questions_above step c.args.n)
+          (omega arith),
+    )
 
 pub go_on-returns-then-n-highest-clause-of_step : goal.go_on-returns-then-n-highest-clause-of_step
 go_on-returns-then-n-highest-clause-of_step g t c =

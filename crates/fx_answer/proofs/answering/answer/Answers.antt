@@ -1,11 +1,9 @@
-use Rattle.std.proofs.Common.{◌≡◌, [], All, Result, Ok, Err, refl, sym, ap, ◌∙◌, arith, subst}
+use Rattle.std.proofs.Common.{◌≡◌, [], All, Result, Ok, Err, refl, sym, ◌∙◌, arith, subst}
 use Rattle.std.specs.Prelude.{IfOk}
 use Rattle.std.proofs.lemmas.Result.{IfOk-weaker}
-use Rattle.fx_search.specs.FactorRows.{AreForbidden}
 use Rattle.fx_statements.specs.Steps.{meaning_of}
 use Rattle.fx_answer.specs.Books.{books_of}
 use Rattle.fx_answer.specs.Outcomes.{HasShape}
-use Rattle.fx_answer.specs.Standing.{all_books_from, conclusion_from}
 use Rattle.fx_answer.specs.StepClaims.{ClaimsHold}
 use Rattle.fx_answer.proofs.Best.{claims_hold}
 use Rattle.fx_answer.proofs.Asking.{same_words, whole, whole_books}
@@ -15,16 +13,16 @@ use Rattle.fx_answer.proofs.answering.answer.Goals as goal
 
 pub ask_from-requires-clause-high : goal.ask_from-requires-clause-high
 ask_from-requires-clause-high g c lifetimes live =
-    some_numbers (meaning_of c.args.step.now) (kept_valid c.args.step.now) c.lowest-n.result c.lowest-n.ensures
+    some_numbers _ (kept_valid c.args.step.now) c.lowest-n.result c.lowest-n.ensures
 
 pub question_for-requires-clause-high : goal.question_for-requires-clause-high
 question_for-requires-clause-high g c =
-    some_numbers (meaning_of c.args.step.now) (kept_valid c.args.step.now) c.lowest-n.result c.lowest-n.ensures
+    some_numbers _ (kept_valid c.args.step.now) c.lowest-n.result c.lowest-n.ensures
 
 pub ask_from-requires-clause-words : goal.ask_from-requires-clause-words
 ask_from-requires-clause-words g c lifetimes live = λ k.
     same_words (meaning_of c.args.step.now) c.lowest-n.result k c.in_ok-words.words
-    (subst (λ p. AreForbidden p c.in_ok-words.words) c.in_ok-question_for.ensures.problem c.in_ok-words.ensures)
+    (rw c.in_ok-question_for.ensures.problem at c.in_ok-words.ensures)
 
 pub returns-clause-outcome : goal.returns-clause-outcome
 returns-clause-outcome g c =
@@ -33,10 +31,9 @@ returns-clause-outcome g c =
     let ensured = c.ask_from.ensures in
     IfOk-weaker result _ _ (λ outcome h.
     let books : outcome.books ≡ books_of step =
-    h.1 [] refl (c.lowest-n.ensures ∙ sym (omega arith)) c.new.ensures ∙ ap (all_books_from step []) c.lowest-n.ensures
-    ∙ whole_books step in
+    cc (h.1 [] refl (c.lowest-n.ensures ∙ sym (omega arith)) c.new.ensures, c.lowest-n.ensures, whole_books step) in
     record {
-      concluded = h.0.1 [] refl tt refl ∙ ap (conclusion_from step []) c.lowest-n.ensures ∙ whole step;
+      concluded = cc (h.0.1 [] refl tt refl, c.lowest-n.ensures, whole step);
       factors = h.0.0.factors;
       few_blocks = h.0.0.few_blocks;
       books = books;
@@ -51,5 +48,5 @@ pub returns-clause-claims : goal.returns-clause-claims
 returns-clause-claims g c =
     IfOk-weaker c.ask_from.result _ _
     (λ outcome is. subst (ClaimsHold (meaning_of c.args.step.now)) (sym is.concluded)
-    (claims_hold (meaning_of c.args.step.now) (kept_valid c.args.step.now)))
+    (claims_hold _ (kept_valid c.args.step.now)))
     (returns-clause-outcome g c)

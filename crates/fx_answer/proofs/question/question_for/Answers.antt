@@ -1,7 +1,6 @@
-use Rattle.std.proofs.Common.{sym, ap, ◌∙◌, subst, IsTrue}
-use Rattle.fx_vectors.specs.Question.{CanBeAsked, is_resolution}
+use Rattle.std.proofs.Common.{sym, ap, ◌∙◌, subst}
+use Rattle.fx_vectors.specs.Question.{CanBeAsked}
 use Rattle.fx_vectors.specs.Shape.{dimensions_of}
-use Rattle.fx_statements.specs.Questions.{requirement_for}
 use Rattle.fx_statements.specs.Steps.{meaning_of}
 use Rattle.fx_answer.proofs.Valid.{kept_valid, least_valid, requirement_valid}
 use Rattle.fx_answer.proofs.question.question_for.Goals as goal
@@ -16,12 +15,10 @@ returns-clause-valid c =
       shaped = c.shape_for.ensures.of_step.shaped;
       asked =
           subst (λ r. CanBeAsked (dimensions_of c.shape_for.result) r) (sym wanted)
-          (subst (λ d. CanBeAsked d (requirement_for (meaning_of step) c.args.n))
-          (sym c.shape_for.ensures.dimensions)
-          (requirement_valid (meaning_of step) (kept_valid step) c.args.n low high));
+          (rw (← c.shape_for.ensures.dimensions) at (requirement_valid _ (kept_valid step) c.args.n low high));
       least = λ h.
           let valid = least_valid (meaning_of step) (kept_valid step) c.args.n low high h in (
-            subst (λ r. IsTrue (is_resolution r)) (sym wanted) valid.0,
+            rw (← wanted) at valid.0,
             ap (λ d. d.t) c.shape_for.ensures.dimensions ∙
                 valid.1,
           );

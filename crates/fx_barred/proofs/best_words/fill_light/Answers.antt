@@ -1,4 +1,4 @@
-use Rattle.std.proofs.Common.{◌≡◌, ◌<◌, ◌+◌, ◌^◌, ◌∙◌, ℕ, None, length, length-set, ap, arith}
+use Rattle.std.proofs.Common.{◌≡◌, ◌<◌, ◌+◌, ◌^◌, ◌∙◌, None, length, length-set, arith}
 use Rattle.std.proofs.lemmas.List.{get_or-set_other}
 use Rattle.fx_designs.specs.Problems.{AtResolution}
 use Rattle.fx_barred.specs.BestWords.{IsBest, IsWithin}
@@ -7,15 +7,15 @@ use Rattle.fx_barred.proofs.best_words.fill_light.Goals as goal
 
 pub loop-x-preserved : goal.loop-x-preserved
 loop-x-preserved c =
-    let place : ℕ = c.args.first + c.from.result in
+    let place = c.args.first + c.from.result in
     let v = c.lightest.result in
     let tables = c.loop-x.tables in
-    let at : place ≡ c.args.first + c.loop-x.x = omega (arith, c.from.ensures) in
+    let at : place ≡ c.args.first + c.loop-x.x = omega arith in
     let there : place < length tables =
-    omega (arith, at, c.loop-x.invariant.len, c.requires.there, c.loop-x-test.true, c.size-x-end.ensures.points) in
+    omega arith in
     record {
       len = length-set tables place v ∙ c.loop-x.invariant.len;
-      kept = λ k low. get_or-set_other tables place k v None (λ (e : k ≡ place). omega arith) ∙ c.loop-x.invariant.kept
+      kept = λ k low. get_or-set_other tables place k v None (λ e. omega arith) ∙ c.loop-x.invariant.kept
           k low;
       within = made-next (λ y o. IsWithin c.args.reached.now.q (length c.args.reached.now.rows) o) tables c.args.first
           c.loop-x.x place v at there c.lightest.ensures.within c.loop-x.invariant.within;
@@ -28,6 +28,6 @@ loop-x-preserved c =
 pub returns-clause-best : goal.returns-clause-best
 returns-clause-best c d r eq em rows some half x low =
     let size : d.q ^ d.m ≡ c.args.reached.now.q ^ c.args.reached.now.m =
-    ap (λ (k : ℕ). k ^ d.m) eq ∙ ap (λ (k : ℕ). c.args.reached.now.q ^ k) em in
+    cc in
     c.loop-x.invariant.best d r eq em rows some half x
-    (omega (arith, low, size, c.loop-x-test.false, c.size-x-end.ensures.points))
+    (omega arith)

@@ -1,4 +1,4 @@
-use Rattle.std.proofs.Common.{◌≡◌, ◌<◌, ◌+◌, ◌-◌, ◌^◌, ◌∙◌, ℕ, None, length, take, length-set, sym, subst, ap, arith}
+use Rattle.std.proofs.Common.{◌≡◌, ◌<◌, ◌+◌, ◌-◌, ◌^◌, ◌∙◌, None, length, take, length-set, arith}
 use Rattle.std.proofs.lemmas.List.{get_or-set_other}
 use Rattle.fx_barred.specs.BestWords.{IsBest, IsWithin, AreBest}
 use Rattle.fx_barred.proofs.BestWords.{made-next}
@@ -6,32 +6,28 @@ use Rattle.fx_barred.proofs.best_words.fill_next.Goals as goal
 
 pub best_with_last-requires-clause-within : goal.best_with_last-requires-clause-within
 best_with_last-requires-clause-within c x low =
-    subst (λ o. IsWithin c.args.rows.now.q (length c.args.rows.now.rows - 1) o)
-    (sym (c.loop-x.invariant.kept (c.args.before + x) (omega (arith, low, c.requires.order))))
-    (c.requires.within x low)
+    rw (c.loop-x.invariant.kept (c.args.before + x) (omega arith)) (c.requires.within x low)
 
 pub loop-x-preserved : goal.loop-x-preserved
 loop-x-preserved c =
-    let place : ℕ = c.args.first + c.from.result in
+    let place = c.args.first + c.from.result in
     let v = c.best_with_last.result in
     let tables = c.loop-x.tables in
-    let at : place ≡ c.args.first + c.loop-x.x = omega (arith, c.from.ensures) in
+    let at : place ≡ c.args.first + c.loop-x.x = omega arith in
     let there : place < length tables =
-    omega (arith, at, c.loop-x.invariant.len, c.requires.there, c.loop-x-test.true, c.size-x-end.ensures.points) in
+    omega arith in
     record {
       len = length-set tables place v ∙ c.loop-x.invariant.len;
-      kept = λ k low. get_or-set_other tables place k v None (λ (e : k ≡ place). omega arith) ∙ c.loop-x.invariant.kept
+      kept = λ k low. get_or-set_other tables place k v None (λ e. omega arith) ∙ c.loop-x.invariant.kept
           k low;
       within = made-next (λ y o. IsWithin c.args.rows.now.q (length c.args.rows.now.rows) o) tables c.args.first
           c.loop-x.x place v at there c.best_with_last.ensures.within c.loop-x.invariant.within;
       best = λ d wanted eq em blocks old.
           (let size : d.q ^ d.m
-          ≡ c.args.rows.now.q ^ c.args.rows.now.m = ap (λ (k : ℕ). k ^ d.m) eq ∙ ap (λ (k : ℕ). c.args.rows.now.q ^ k)
-          em in
+          ≡ c.args.rows.now.q ^ c.args.rows.now.m = cc in
           let still : AreBest d wanted (take (length c.args.rows.now.rows - 1) c.args.rows.now.rows) c.args.before
           tables = λ y low.
-          subst (λ o. IsBest d wanted (take (length c.args.rows.now.rows - 1) c.args.rows.now.rows) y o)
-          (sym (c.loop-x.invariant.kept (c.args.before + y) (omega (arith, low, size, c.requires.order)))) (old y low)
+          rw (c.loop-x.invariant.kept (c.args.before + y) (omega arith)) (old y low)
           in
           made-next (λ y o. IsBest d wanted c.args.rows.now.rows y o) tables c.args.first c.loop-x.x place v at there
           (c.best_with_last.ensures.best d wanted eq em blocks still)
@@ -41,6 +37,6 @@ loop-x-preserved c =
 pub returns-clause-best : goal.returns-clause-best
 returns-clause-best c d wanted eq em blocks old x low =
     let size : d.q ^ d.m ≡ c.args.rows.now.q ^ c.args.rows.now.m =
-    ap (λ (k : ℕ). k ^ d.m) eq ∙ ap (λ (k : ℕ). c.args.rows.now.q ^ k) em in
+    cc in
     c.loop-x.invariant.best d wanted eq em blocks old x
-    (omega (arith, low, size, c.loop-x-test.false, c.size-x-end.ensures.points))
+    (omega arith)

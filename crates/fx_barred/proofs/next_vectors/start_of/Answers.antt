@@ -8,7 +8,7 @@ use Rattle.fx_barred.proofs.next_vectors.start_of.Goals as goal
 
 classes : (words : List ForbiddenVector) → IsInOrder words → IsNonDecreasingBy (λ w. w.class) words
 classes words order i j d le low =
-    elim (order i j d le low) [ inl less ↦ omega arith | inr same ↦ omega (arith, same.0) ]
+    elim (order i j d le low) [ inl less ↦ omega arith | inr same ↦ omega arith ]
 
 pub returns-clause-before : goal.returns-clause-before
 returns-clause-before c =

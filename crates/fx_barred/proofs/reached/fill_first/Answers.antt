@@ -2,7 +2,6 @@ use Rattle.std.proofs.Common.{◌≡◌, ◌+◌, ◌||◌, ◌&&◌, ◌∙◌,
 use Rattle.std.specs.Prelude.{nat_lt}
 use Rattle.std.specs.List.{list_any, range_with_len}
 use Rattle.std.proofs.Math.Bool.{or_comm}
-use Rattle.fx_designs.specs.Galois.{IsField}
 use Rattle.fx_laws.proofs.Tables.{is_order-field}
 use Rattle.fx_demands.proofs.Digits.{sum_below}
 use Rattle.fx_points.specs.Points.{has}
@@ -12,15 +11,15 @@ use Rattle.fx_barred.proofs.reached.fill_first.Goals as goal
 
 pub loop-c-preserved : goal.loop-c-preserved
 loop-c-preserved c x low =
-    let q : ℕ = c.args.sums.now.q in
-    let m : ℕ = c.args.sums.now.m in
-    let f : IsField q = is_order-field q c.q-c-end.ensures.known in
+    let q = c.args.sums.now.q in
+    let m = c.args.sums.now.m in
+    let f = is_order-field q c.q-c-end.ensures.known in
     let h : ℕ → Bool =
     λ k. has c.args.zero.now (sum_of q 1 m x (slice_index c.args.multiples.now (c.args.first + k))) in
-    let y : ℕ = slice_index c.args.multiples.now (c.args.first + c.from.result) in
-    more_codes h (has c.loop-c.set x) (has c.insert.new.self x) (has c.args.same.now x) c.loop-c.c
-    (omega (arith, c.loop-c.auto.c))
-    (c.insert.ensures.added x (omega (arith, low, c.q-c-end.ensures.runs))
+    let y = slice_index c.args.multiples.now (c.args.first + c.from.result) in
+    more_codes h _ _ (has c.args.same.now x) c.loop-c.c
+    (omega arith)
+    (c.insert.ensures.added x (omega arith)
     ∙ or_comm (eqb x c.minus.result) (has c.loop-c.set x)
     ∙ ap (λ b. has c.loop-c.set x || b)
     (ap (eqb x) c.minus.ensures.negative ∙ zero_at q m f x y low
@@ -32,7 +31,7 @@ loop-c-preserved c x low =
 pub returns : goal.returns
 returns c x low =
     let ends : c.loop-c.c ≡ c.args.sums.now.q =
-    omega (arith, c.loop-c.auto.c-end, c.loop-c-test.false, c.q-c-end.ensures.order, c.q-c-end.ensures.least) in
+    omega arith in
     c.loop-c.invariant x low
     ∙ ap (λ n. has c.args.same.now x
     || list_any

@@ -7,7 +7,7 @@ pub loop-i-init : goal.loop-i-init
 loop-i-init g c = record {
   start = subst (AreReady (g.J.Jobs.is_ready c.args.jobs.now)) (sym c.from_vec-staff.ensures) c.requires.ready;
   count = sym c.len-i.ensures;
-  most = omega (arith, ap length c.from_vec-staff.ensures, c.requires.most.0);
+  most = omega (arith, ap length c.from_vec-staff.ensures);
 }
 
 pub loop-i-preserved : goal.loop-i-preserved
@@ -16,17 +16,10 @@ loop-i-preserved g c =
     let i = c.loop-i.invariant in
     record {
       start = subst (AreReady (g.J.Jobs.is_ready c.args.jobs.now)) (sym more)
-          (ready_more (g.J.Jobs.is_ready c.args.jobs.now) c.loop-i.staff c.in_ok-worker.worker i.start
+          (ready_more _ c.loop-i.staff c.in_ok-worker.worker i.start
           c.in_ok-worker.ensures);
-      count = omega (arith, ap length more, length-append c.loop-i.staff (c.in_ok-worker.worker ∷ []), i.count);
-      most = omega (
-        arith,
-        ap length more,
-        length-append c.loop-i.staff (c.in_ok-worker.worker ∷ []),
-        i.count,
-        c.loop-i-test.true,
-        c.requires.most.1,
-      );
+      count = omega (arith, ap length more, length-append c.loop-i.staff (c.in_ok-worker.worker ∷ []));
+      most = omega (arith, ap length more, length-append c.loop-i.staff (c.in_ok-worker.worker ∷ []));
     }
 
 pub returns-clause-ready : goal.returns-clause-ready
@@ -34,7 +27,7 @@ returns-clause-ready g c =
     subst (AreReady (g.J.Jobs.is_ready c.args.jobs.now)) (sym c.into_vec.ensures) c.loop-i.invariant.start
 
 pub returns-clause-wanted : goal.returns-clause-wanted
-returns-clause-wanted g c = omega (arith, ap length c.into_vec.ensures, c.loop-i.invariant.count, c.loop-i-test.false)
+returns-clause-wanted g c = omega (arith, ap length c.into_vec.ensures)
 
 pub returns-clause-most : goal.returns-clause-most
-returns-clause-most g c = omega (arith, ap length c.into_vec.ensures, c.loop-i.invariant.most)
+returns-clause-most g c = omega (arith, ap length c.into_vec.ensures)

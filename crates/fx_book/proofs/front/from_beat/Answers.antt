@@ -1,4 +1,4 @@
-use Rattle.std.proofs.Common.{◌≡◌, ℕ, ◌+◌, ◌-◌, ◌∙◌, ◌∷◌, List, ap, sym, take, drop, arith, Some, Err}
+use Rattle.std.proofs.Common.{◌≡◌, ℕ, ◌+◌, ◌-◌, ◌∙◌, ◌∷◌, List, ap, take, drop, arith, Some, Err}
 use Rattle.fx_vectors.specs.declared.shape.Shape.{Shape}
 use Rattle.fx_book.specs.Parts.{split}
 use Rattle.fx_book.specs.Faults.{fault}
@@ -16,10 +16,9 @@ returns-in-Some-clause-read c =
     let rest : List (List ℕ) = split 10 (drop (end + 1) bytes) in
     let line : List ℕ = take (end - c.args.at) (drop c.args.at bytes) in
     let cut : split 10 (drop c.args.at bytes) ≡ line ∷ rest =
-    c.next_stop-end.ensures.more (omega (arith, c.next_stop-end.ensures.within, c.if-end-bytes.false)) in
+    c.next_stop-end.ensures.more (omega arith) in
     let is : beat_of shape.s (may_be_beaten shape c.args.demands) line ≡ Some c.in-Some.beat =
-    sym (ap (λ b. beat_of shape.s b line) c.may_be_beaten-allowed.ensures) ∙ sym c.in_ok-beat_of.ensures.read ∙
-    c.in-Some.is in
+    cc (c.may_be_beaten-allowed.ensures, c.in_ok-beat_of.ensures.read, c.in-Some.is) in
     rw c.is_some.ensures
     (ap (from_beat shape c.args.demands) cut ∙ line_more (Err (fault kind.Pattern 4))
     (λ line rest. with_beat shape c.args.demands rest (beat_of shape.s (may_be_beaten shape c.args.demands) line))

@@ -1,9 +1,9 @@
-use Rattle.std.proofs.Common.{◌≡◌, ℕ, ◌+◌, ◌-◌, ◌∙◌, ◌∷◌, List, ap, sym, subst, take, drop, arith, Some, Err}
+use Rattle.std.proofs.Common.{◌≡◌, ℕ, ◌+◌, ◌-◌, ◌∙◌, ◌∷◌, List, ap, sym, take, drop, arith, Err}
 use Rattle.fx_vectors.specs.declared.shape.Shape.{Shape}
 use Rattle.fx_book.specs.Parts.{split}
 use Rattle.fx_book.specs.Faults.{fault}
 use Rattle.fx_book.specs.declared.fault.FaultKind.TheVariants as kind
-use Rattle.fx_book.specs.Heads.{IsHeadOf, from_demands, from_beat, with_demands}
+use Rattle.fx_book.specs.Heads.{from_demands, from_beat, with_demands}
 use Rattle.fx_book.specs.Demands.{demands_of}
 use Rattle.fx_book.proofs.Splits.{some_parts}
 use Rattle.fx_book.proofs.Lines.{line_more}
@@ -17,11 +17,11 @@ returns-in-Some-clause-read c =
     let rest : List (List ℕ) = split 10 (drop (end + 1) bytes) in
     let line : List ℕ = take (end - c.args.at) (drop c.args.at bytes) in
     let cut : split 10 (drop c.args.at bytes) ≡ line ∷ rest =
-    c.next_stop-end.ensures.more (omega (arith, c.next_stop-end.ensures.within, c.if-end-bytes.false)) in
-    let is : demands_of shape (split 32 line) ≡ Some c.in-Some.demands =
+    c.next_stop-end.ensures.more (omega arith) in
+    let is =
     sym c.in_ok-demands_of.ensures.read ∙ c.in-Some.is in
     let e : from_demands shape (split 10 (drop c.args.at bytes)) ≡ from_beat shape c.in-Some.demands rest =
     ap (from_demands shape) cut ∙ line_more (Err (fault kind.Demands 3))
     (λ line rest. with_demands shape rest (demands_of shape (split 32 line))) line rest
     (some_parts 10 (drop (end + 1) bytes)) ∙ ap (with_demands shape rest) is in
-    subst (λ r. IsHeadOf bytes r c.from_beat.result) (sym e) c.from_beat.ensures.read
+    rw e c.from_beat.ensures.read

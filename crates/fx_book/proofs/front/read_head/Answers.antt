@@ -1,8 +1,8 @@
-use Rattle.std.proofs.Common.{◌≡◌, ℕ, ◌+◌, ◌-◌, ◌∙◌, ◌∷◌, List, ap, sym, subst, take, drop, arith, Some, Err}
+use Rattle.std.proofs.Common.{◌≡◌, ℕ, ◌+◌, ◌-◌, ◌∙◌, ◌∷◌, List, ap, sym, take, drop, arith, Err}
 use Rattle.fx_book.specs.Parts.{split}
 use Rattle.fx_book.specs.Faults.{fault}
 use Rattle.fx_book.specs.declared.fault.FaultKind.TheVariants as kind
-use Rattle.fx_book.specs.Heads.{IsHeadOf, head_of, from_demands, with_shape, shape_of}
+use Rattle.fx_book.specs.Heads.{head_of, from_demands, with_shape, shape_of}
 use Rattle.fx_book.proofs.Splits.{some_parts}
 use Rattle.fx_book.proofs.Lines.{line_more}
 use Rattle.fx_book.proofs.front.read_head.Goals as goal
@@ -14,11 +14,11 @@ returns-in-Some-clause-read c =
     let rest : List (List ℕ) = split 10 (drop (end + 1) bytes) in
     let line : List ℕ = take (end - c.args.at) (drop c.args.at bytes) in
     let cut : split 10 (drop c.args.at bytes) ≡ line ∷ rest =
-    c.next_stop-end.ensures.more (omega (arith, c.next_stop-end.ensures.within, c.if-end-bytes.false)) in
-    let is : shape_of c.args.version (split 32 line) ≡ Some c.in-Some.shape =
+    c.next_stop-end.ensures.more (omega arith) in
+    let is =
     sym c.shape_of.ensures.shape ∙ c.in-Some.is in
     let e : head_of c.args.version (split 10 (drop c.args.at bytes)) ≡ from_demands c.in-Some.shape rest =
     ap (head_of c.args.version) cut ∙ line_more (Err (fault kind.Size 2))
     (λ line rest. with_shape rest (shape_of c.args.version (split 32 line))) line rest
     (some_parts 10 (drop (end + 1) bytes)) ∙ ap (with_shape rest) is in
-    subst (λ r. IsHeadOf bytes r c.from_demands.result) (sym e) c.from_demands.ensures.read
+    rw e c.from_demands.ensures.read

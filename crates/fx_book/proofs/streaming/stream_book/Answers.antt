@@ -1,4 +1,4 @@
-use Rattle.std.proofs.Common.{◌≡◌, ◌++◌, List, ℕ, Result, Ok, Err, refl, ap, subst, ◌∙◌}
+use Rattle.std.proofs.Common.{◌≡◌, ◌++◌, List, ℕ, Result, Ok, Err, refl, ap, ◌∙◌}
 use Rattle.std.specs.Prelude.{codes}
 use Rattle.fx_base.specs.declared.sink.Sink as sink
 use Rattle.fx_vectors.specs.declared.book.Book.{Book}
@@ -25,12 +25,11 @@ returns-in_err-front g c = nothing_written g.K.Sink _ _ c.from_residual.result c
 
 pub returns-in_err-write_all : goal.returns-in_err-write_all
 returns-in_err-write_all g c =
-    let book : Book = c.args.book.now in
+    let book = c.args.book.now in
     let ended = c.from_residual-in_err-write_all.result in
     let cut = c.in_err-write_all.ensures in
     let front = c.as_slice.ensures ∙ c.in_ok-front.ensures in
-    subst (λ (l : List ℕ). WritesTo g.K.Sink l c.args.sink.now c.write_all.new.sink ended)
-    (ap (λ (l : List ℕ). l ++ rest book) front ∙ by_front book)
+    rw (ap (λ l. l ++ rest book) front ∙ by_front book) at
     (stopped_first g.K.Sink c.as_slice.result.now (rest book) WriteFault
     (cut_written g.K.Sink {T = Unit {0}} c.as_slice.result.now cut.unchanged (Err WriteFault) refl cut.part
     cut.cause.failed cut.cause.later)
@@ -42,37 +41,36 @@ written_front : (K : Type 0) (members : sink.Ghosts K) (book : Book) (front : Li
     → WritesTo {T = Unit {0}} members front old mid (Ok tt) → WritesTo members (rest book) mid new ended
     → WritesTo members (book_text book) old new ended
 written_front K members book front old mid new ended is first second =
-    subst (λ (l : List ℕ). WritesTo members l old new ended) (ap (λ (l : List ℕ). l ++ rest book) is ∙ by_front book)
-    (written_then members front (rest book) first second)
+    rw (ap (λ l. l ++ rest book) is ∙ by_front book) at (written_then members front _ first second)
 
 pub returns-in_err-stream_entries : goal.returns-in_err-stream_entries
 returns-in_err-stream_entries g c =
-    let book : Book = c.args.book.now in
+    let book = c.args.book.now in
     let ended = c.from_residual-in_err-stream_entries.result in
     let whole = c.in_ok-write_all.ensures in
     written_front _ g.K.Sink book c.as_slice.result.now _ _ _ ended (c.as_slice.ensures ∙ c.in_ok-front.ensures)
     (all_written g.K.Sink _ whole.unchanged tt whole.done whole.cause.unchanged)
-    (stopped_first g.K.Sink (entries book) (codes "END\n") c.in_err-stream_entries.field-0.0
+    (stopped_first g.K.Sink _ (codes "END\n") c.in_err-stream_entries.field-0.0
     c.in_err-stream_entries.ensures ended c.from_residual-in_err-stream_entries.ensures.1)
 
 pub returns-in_err-write_all-2 : goal.returns-in_err-write_all-2
 returns-in_err-write_all-2 g c =
-    let book : Book = c.args.book.now in
+    let book = c.args.book.now in
     let ended = c.from_residual-in_err-write_all-2.result in
     let whole = c.in_ok-write_all.ensures in
     let cut = c.in_err-write_all-2.ensures in
     written_front _ g.K.Sink book c.as_slice.result.now _ _ _ ended (c.as_slice.ensures ∙ c.in_ok-front.ensures)
     (all_written g.K.Sink _ whole.unchanged tt whole.done whole.cause.unchanged)
-    (written_then g.K.Sink (entries book) (codes "END\n") c.in_ok-stream_entries.ensures
+    (written_then g.K.Sink _ (codes "END\n") c.in_ok-stream_entries.ensures
     (cut_written g.K.Sink _ cut.unchanged ended c.from_residual-in_err-write_all-2.ensures.1 cut.part
     cut.cause.failed cut.cause.later))
 
 pub returns : goal.returns
 returns g c =
-    let book : Book = c.args.book.now in
+    let book = c.args.book.now in
     let whole = c.in_ok-write_all.ensures in
     let last = c.in_ok-write_all-2.ensures in
-    written_front _ g.K.Sink book c.as_slice.result.now _ _ _ (Ok tt) (c.as_slice.ensures ∙ c.in_ok-front.ensures)
+    written_front _ g.K.Sink book c.as_slice.result.now _ _ _ _ (c.as_slice.ensures ∙ c.in_ok-front.ensures)
     (all_written g.K.Sink _ whole.unchanged tt whole.done whole.cause.unchanged)
-    (written_then g.K.Sink (entries book) (codes "END\n") c.in_ok-stream_entries.ensures
+    (written_then g.K.Sink _ (codes "END\n") c.in_ok-stream_entries.ensures
     (all_written g.K.Sink _ last.unchanged tt last.done last.cause.unchanged))

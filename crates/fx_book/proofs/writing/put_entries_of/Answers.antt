@@ -4,4 +4,4 @@ use Rattle.fx_book.proofs.writing.put_entries_of.Goals as goal
 
 pub put_entry_of-requires-clause-room : goal.put_entry_of-requires-clause-room
 put_entry_of-requires-clause-room c =
-    omega (arith, c.loop-i.invariant.short, weight-drop c.loop-i.i c.args.vector.now, c.requires.few, c.requires.room)
+    omega (arith, weight-drop c.loop-i.i c.args.vector.now)

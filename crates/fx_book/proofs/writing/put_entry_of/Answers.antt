@@ -8,48 +8,46 @@ code_length : (c : After-put_number) → length c.put_number.new.self ≤ 1 + le
 code_length c =
     rw c.put_number.ensures
     (length-decimal_before 1 c.from.result c.args.text.now (omega arith)
-    (omega (arith, c.from.ensures, c.requires.code)) (omega (arith, c.from.ensures, c.requires.code)))
+    (omega arith) (omega arith))
 
 place_length : (c : After-put_number-2) → length c.put_number-2.new.self ≤ 2 + length c.put.new.self
 place_length c =
     rw c.put_number-2.ensures
-    (length-decimal_before 2 c.args.place c.put.new.self (omega arith) (omega (arith, c.requires.place))
-    (omega (arith, c.requires.place)))
+    (length-decimal_before 2 c.args.place c.put.new.self (omega arith) (omega arith)
+    (omega arith))
 
 pub put_number-requires : goal.put_number-requires
 put_number-requires c =
     omega (
       arith,
-      c.requires.room,
       simp length-append at
           (length-decimal_before 1 c.from.result c.args.text.now (omega arith)
-          (omega (arith, c.from.ensures, c.requires.code)) (omega (arith, c.from.ensures, c.requires.code))),
+          (omega arith) (omega arith)),
     )
 
 pub put-requires : goal.put-requires
-put-requires c = omega (arith, c.requires.room, code_length (goal.at.put-requires c).After-put_number)
+put-requires c = omega (arith, code_length (goal.at.put-requires c).After-put_number)
 
 pub put_number-requires-2 : goal.put_number-requires-2
 put_number-requires-2 c =
     omega (
       arith,
-      c.requires.room,
       ap length c.put.ensures,
       code_length
           (goal.at.put_number-requires-2 c).After-put_number,
       simp length-append at
-          (length-decimal_before 2 c.args.place c.put.new.self (omega arith) (omega (arith, c.requires.place))
-          (omega (arith, c.requires.place))),
+          (length-decimal_before 2 c.args.place c.put.new.self (omega arith) (omega arith)
+          (omega arith)),
     )
 
 pub put-requires-2 : goal.put-requires-2
 put-requires-2 c =
     omega (
       arith,
-      c.requires.room,
       ap length c.put.ensures,
       code_length (goal.at.put-requires-2 c).After-put_number,
-      place_length (goal.at.put-requires-2 c).After-put_number-2,
+      place_length
+          (goal.at.put-requires-2 c).After-put_number-2,
     )
 
 pub returns-clause-short : goal.returns-clause-short

@@ -14,16 +14,14 @@ cons-range : {T : Type 0} (xs : List T) (i to : ℕ) (x : T) → i < to → to �
     → x ∷ slice_range xs (suc i) to ≡ slice_range xs i to
 cons-range {T} xs i to x low high is =
     let e : to - i ≡ suc (to - suc i) = omega arith in
-    ap (λ (y : T). y ∷ take (to - suc i) (drop (suc i) xs)) is
-    ∙ ap (λ (l : List T). take (suc (to - suc i)) l) (sym (drop-cons xs i x (omega arith)))
-    ∙ ap (λ (n : ℕ). take n (drop i xs)) (sym e)
+    cc (drop-cons xs i x (omega arith))
 
 pub loop-i-init : goal.loop-i-init
 loop-i-init c =
     let e : c.args.to - c.args.to ≡ 0 = omega arith in
     record {
       so_far = c.new-text.ensures ∙ ap
-          (λ (n : ℕ). entries_text Second (dimensions_of c.args.shape) (take n (drop c.args.to c.args.marks.now)))
+          (λ n. entries_text Second (dimensions_of c.args.shape) (take n (drop c.args.to c.args.marks.now)))
           (sym e);
       low = c.requires.ordered;
       short = omega (arith, ap length c.new-text.ensures);
@@ -31,16 +29,16 @@ loop-i-init c =
 
 pub loop-i-preserved : goal.loop-i-preserved
 loop-i-preserved c =
-    let marks : List nodes.Mark = c.args.marks.now in
-    let mark : nodes.Mark = meaning_of c.get_near-mark.result.0 in
-    let i : ℕ = c.loop-i.i - 1 in
-    let next : c.loop-i.i ≡ suc i = omega (arith, c.loop-i-test.true) in
+    let marks = c.args.marks.now in
+    let mark = meaning_of c.get_near-mark.result.0 in
+    let i = c.loop-i.i - 1 in
+    let next : c.loop-i.i ≡ suc i = omega arith in
     record {
       so_far =
           c.put_entry.ensures.text
-          ∙ ap (λ (l : List ℕ). entry_text Second (dimensions_of c.args.shape) mark ++ l)
+          ∙ ap (λ l. entry_text Second (dimensions_of c.args.shape) mark ++ l)
           (c.loop-i.invariant.so_far ∙ ap
-          (λ (k : ℕ). entries_text Second (dimensions_of c.args.shape) (slice_range marks k c.args.to)) next)
+          (λ k. entries_text Second (dimensions_of c.args.shape) (slice_range marks k c.args.to)) next)
           ∙ ap (entries_text Second (dimensions_of c.args.shape))
           (cons-range marks i c.args.to mark (omega arith) (omega arith) c.get_near-mark.ensures.mark);
       low = omega arith;
@@ -49,10 +47,9 @@ loop-i-preserved c =
 
 pub returns-clause-ok : goal.returns-clause-ok
 returns-clause-ok c =
-    let marks : List nodes.Mark = c.args.marks.now in
-    let at : c.loop-i.i ≡ c.args.from = omega (arith, c.loop-i-test.false) in
+    let marks = c.args.marks.now in
+    let at : c.loop-i.i ≡ c.args.from = omega arith in
     let text : c.as_slice.result.now
     ≡ entries_text Second (dimensions_of c.args.shape) (slice_range marks c.args.from c.args.to) =
-    c.as_slice.ensures ∙ c.loop-i.invariant.so_far ∙ ap
-    (λ (k : ℕ). entries_text Second (dimensions_of c.args.shape) (slice_range marks k c.args.to)) at in
+    cc (c.as_slice.ensures, c.loop-i.invariant.so_far) in
     rw text at c.put.ensures.ok

@@ -12,19 +12,17 @@ pub put_number-requires : goal.put_number-requires
 put_number-requires c =
     omega (
       arith,
-      c.requires.room,
       simp length-append at
           (length-decimal_before 39 c.args.word c.args.text.now (omega arith) (omega arith) (omega arith)),
     )
 
 pub put-requires : goal.put-requires
-put-requires c = omega (arith, c.requires.room, length_after (goal.at.put-requires c).After-put_number)
+put-requires c = omega (arith, length_after (goal.at.put-requires c).After-put_number)
 
 pub put-requires-else-weight-le-SHORT : goal.put-requires-else-weight-le-SHORT
 put-requires-else-weight-le-SHORT c =
     omega (
       arith,
-      c.requires.room,
       ap length c.put.ensures,
       length_after
           (goal.at.put-requires-else-weight-le-SHORT c).After-put_number,

@@ -1,27 +1,23 @@
 use Rattle.std.proofs.Common.{◌∙◌, ap, sym}
 use Rattle.fx_designs.specs.Nodes.{marks}
-use Rattle.fx_vectors.specs.declared.question.Question.{Question}
-use Rattle.fx_vectors.specs.declared.shape.Shape.{Shape}
 use Rattle.fx_vectors.specs.Question.{problem_of}
-use Rattle.fx_book.specs.QuestionBooks.{book_for}
 use Rattle.fx_catalogue.specs.Lines.{question_of}
 use Rattle.fx_catalogue.proofs.Answered.{least-line, to-beat}
 use Rattle.fx_catalogue.proofs.line.least.Goals as goal
 
 pub least_book-book-requires-clause-pattern : goal.least_book-book-requires-clause-pattern
 least_book-book-requires-clause-pattern c =
-    let same = c.question_of.ensures ∙ ap question_of c.shape.ensures.shape in
-    to-beat c.args.matrix.shape c.args.matrix.rows c.in_ok-beat.beat c.question_of.result same c.requires.answer
-    (c.in_ok-beat.ensures ∙ c.as_slice.ensures ∙ c.in_ok-pattern.ensures)
+    to-beat c.args.matrix.shape c.args.matrix.rows c.in_ok-beat.beat c.question_of.result
+    (c.question_of.ensures ∙ ap question_of c.shape.ensures.shape) c.requires.answer
+    (cc (c.in_ok-beat.ensures, c.as_slice.ensures, c.in_ok-pattern.ensures))
 
 pub least_book-book-requires-clause-marks : goal.least_book-book-requires-clause-marks
 least_book-book-requires-clause-marks c =
     let same = c.question_of.ensures ∙ ap question_of c.shape.ensures.shape in
-    c.requires.marks ∙ ap (λ (q : Question). marks (problem_of q)) (sym same)
+    c.requires.marks ∙ ap (λ q. marks (problem_of q)) (sym same)
 
 pub returns : goal.returns
 returns c =
-    let same = c.question_of.ensures ∙ ap question_of c.shape.ensures.shape in
     least-line c.args.matrix c.args.budget c.args.count c.in_ok-pattern.pattern c.least_book-book.result
     c.requires.answer c.requires.count c.in_ok-pattern.ensures
-    (c.least_book-book.ensures ∙ ap (λ (q : Question). book_for (problem_of q)) same) c.requires.within
+    (cc (c.least_book-book.ensures, (c.question_of.ensures ∙ ap question_of c.shape.ensures.shape))) c.requires.within

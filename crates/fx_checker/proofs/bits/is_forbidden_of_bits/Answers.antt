@@ -14,7 +14,7 @@ use Rattle.fx_checker.proofs.bits.is_forbidden_of_bits.Goals as goal
 pub returns : goal.returns
 returns c =
     let d : Dimensions = dimensions_of c.args.shape in
-    let f : IsField 2 = subst IsField c.requires.two (is_order-field d.q c.requires.shaped.order) in
+    let f = subst IsField c.requires.two (is_order-field d.q c.requires.shaped.order) in
     let front : weight (take d.s (word_vector d c.args.number)) ≡ count_ones (c.args.number % 2 ^ d.s) =
     ap (λ q. weight (take d.s (digits q (d.s + d.t) c.args.number))) c.requires.two ∙ ones-weigh d.s (d.s + d.t)
     c.args.number (omega arith) in
@@ -23,5 +23,5 @@ returns c =
     c.args.number (omega arith) c.requires.below in
     let few : 2 ^ d.s ≤ 2 ^ 63 = pow-le-pow_right (lit≤ tt) c.requires.shaped.factors in
     let place : 1 * 2 ^ d.s % 18446744073709551616 ≡ 2 ^ d.s = omega arith in
-    (rw place at c.is_light.ensures) ∙ forbidden_by_weight d c.args.r (word_vector d c.args.number)
-    (count_ones (c.args.number % 2 ^ d.s)) (eqb (c.args.number / 2 ^ d.s) 0) front back
+    (rw place at c.is_light.ensures) ∙ forbidden_by_weight d c.args.r _
+    _ _ front back

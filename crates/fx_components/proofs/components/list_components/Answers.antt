@@ -1,4 +1,4 @@
-use Rattle.std.proofs.Common.{rules, ℕ, ◌≡◌, ◌+◌, ◌++◌, [], ◌∙◌, List, Bool, All, subst, sym, ap₂}
+use Rattle.std.proofs.Common.{rules, ◌≡◌, ◌+◌, ◌++◌, [], ◌∙◌, All, subst, sym, ap₂}
 use Rattle.fx_designs.specs.Components.{components}
 use Rattle.fx_designs.specs.Vectors.{IsVector}
 use Rattle.fx_components.proofs.Enumerating.{begun_with, next_weight, components-vectors}
@@ -8,7 +8,7 @@ pub loop-k-preserved : goal.loop-k-preserved
 loop-k-preserved c =
     let none : c.new.result.items ≡ [] = search rules in
     c.in_ok-put_from.ensures ∙ ap₂
-    (λ (a : List (List ℕ)) (chosen : List Bool). a ++ begun_with c.args.q chosen (c.loop-k.k + 1) c.args.s)
+    (λ a chosen. a ++ begun_with c.args.q chosen (c.loop-k.k + 1) c.args.s)
     c.loop-k.invariant none
     ∙ next_weight c.args.q c.args.s c.loop-k.k
 

@@ -1,4 +1,4 @@
-use Rattle.std.proofs.Common.{◌≡◌, ◌∙◌, ℕ, List, [], ◌∷◌, Ok, Err, take, drop, refl, sym, ap}
+use Rattle.std.proofs.Common.{◌≡◌, ◌∙◌, ℕ, List, [], ◌∷◌, Ok, Err, take, drop, sym, ap}
 use Rattle.std.specs.Prelude.{slice_get}
 use Rattle.std.proofs.lemmas.List.{take_rest}
 use Rattle.fx_text.specs.declared.refusal.Refusal.{Refusal}
@@ -17,8 +17,8 @@ module _ (factors : List (List ℕ)) (first : Written) (rest : List Written) (n 
       → IsRefused (bars_at factors first rest) reason
   at_first reason h =
       let whole : IsRefused (all_read factors start (first ∷ take n rest)) reason =
-      stopped (read factors start first) _ reason h in
-      stopped (all_read factors (record { stars = []; star = 0 }) (first ∷ take (stars_len rest) rest)) _ reason
+      stopped _ _ reason h in
+      stopped _ _ reason
       (rw (none, len) at whole)
 
   module _ (r : Reading) (one : read factors start first ≡ Ok r) where
@@ -26,7 +26,7 @@ module _ (factors : List (List ℕ)) (first : Written) (rest : List Written) (n 
         → IsRefused (bars_at factors first rest) reason
     at_rest reason h =
         let whole : IsRefused (all_read factors start (first ∷ take n rest)) reason = rw one h in
-        stopped (all_read factors (record { stars = []; star = 0 }) (first ∷ take (stars_len rest) rest)) _ reason
+        stopped _ _ reason
         (rw (none, len) at whole)
 
     module _ (s : Reading) (others : all_read factors r (take n rest) ≡ Ok s) where
@@ -37,11 +37,11 @@ module _ (factors : List (List ℕ)) (first : Written) (rest : List Written) (n 
 
       at_end : (refusal : Refusal) → Err refusal ≡ upto_of (stars_of s) (slice_get (drop n rest) 1)
           → bars_at factors first rest ≡ Err refusal
-      at_end refusal e = rw (behind, ← len, ← e) refl
+      at_end refusal e = rw (behind, ← len, ← e)
 
       is_read : (upto : ℕ) → Ok upto ≡ upto_of (stars_of s) (slice_get (drop n rest) 1)
           → bars_at factors first rest ≡ Ok (expression (stars_of s) upto)
-      is_read upto e = rw (behind, ← len, ← e) refl
+      is_read upto e = rw (behind, ← len, ← e)
 
 pub returns-in_err-read-clause-refused : goal.returns-in_err-read-clause-refused
 returns-in_err-read-clause-refused c =
@@ -60,18 +60,16 @@ returns-in_err-stars-clause-refused c = refused _ _ stop.NoMemory c.from_residua
 
 pub returns-in_err-upto-clause-refused : goal.returns-in_err-upto-clause-refused
 returns-in_err-upto-clause-refused c =
-    let over =
-    rw (c.in_ok-stars.ensures.stars, take_rest c.args.rest.now c.stars_len-len.result) at c.in_err-upto.ensures in
-    refused _ _ (stop.Refused c.in_err-upto.field-0.0) c.from_residual-in_err-upto.ensures.1
+    refused _ _ _ c.from_residual-in_err-upto.ensures.1
     (at_end c.args.factors.now c.args.first.now c.args.rest.now c.stars_len-len.result c.stars_len-len.ensures.value
-    c.new-stars.result c.new-stars.ensures _ c.in_ok-read.ensures.ok _ c.in_ok-read_all.ensures.ok _ over)
+    c.new-stars.result c.new-stars.ensures _ c.in_ok-read.ensures.ok _ c.in_ok-read_all.ensures.ok _
+    (rw (c.in_ok-stars.ensures.stars, take_rest c.args.rest.now c.stars_len-len.result) at c.in_err-upto.ensures))
 
 pub returns-clause-ok : goal.returns-clause-ok
 returns-clause-ok c =
-    let upto =
-    rw (c.in_ok-stars.ensures.stars, take_rest c.args.rest.now c.stars_len-len.result) at c.in_ok-upto.ensures in
     is_read c.args.factors.now c.args.first.now c.args.rest.now c.stars_len-len.result c.stars_len-len.ensures.value
-    c.new-stars.result c.new-stars.ensures _ c.in_ok-read.ensures.ok _ c.in_ok-read_all.ensures.ok _ upto
+    c.new-stars.result c.new-stars.ensures _ c.in_ok-read.ensures.ok _ c.in_ok-read_all.ensures.ok _
+    (rw (c.in_ok-stars.ensures.stars, take_rest c.args.rest.now c.stars_len-len.result) at c.in_ok-upto.ensures)
     ∙ ap (λ stars. Ok (expression stars c.in_ok-upto.upto)) (sym c.in_ok-stars.ensures.stars)
 
 pub returns-clause-numbers : goal.returns-clause-numbers

@@ -1,4 +1,4 @@
-use Rattle.std.proofs.Common.{◌≡◌, ◌+◌, ◌∙◌, ℕ, List, Bool, true, ◌∷◌, take, drop, false, ap, sym, refl, arith, []}
+use Rattle.std.proofs.Common.{◌≡◌, ◌+◌, ◌∙◌, ℕ, List, Bool, true, ◌∷◌, take, drop, false, ap, refl, arith}
 use Rattle.std.proofs.lemmas.List.{take_rest, drop_all}
 use Rattle.fx_base.proofs.Lists.{drop_read, each-append}
 use Rattle.fx_text.specs.declared.refusal.ParseStop.{ParseStop}
@@ -10,7 +10,6 @@ use Rattle.fx_text.proofs.Stops.{refused, stopped}
 use Rattle.fx_effects.proofs.expressions.expressions_of.Goals as goal
 use Rattle.fx_effects.proofs.expressions.expressions_of.Goals.{then-begins_effect+in_ok-expression+in_ok-push}
 use Rattle.fx_effects.proofs.expressions.expressions_of.Goals.{else-begins_effect}
-use Rattle.fx_demands.specs.Bars.{AreNumbers}
 
 -- an effect that is refused
 at_effect : (factors : List (List ℕ)) (all : List Expression) (joined : Bool) (w : Written) (rest : List Written)
@@ -18,7 +17,7 @@ at_effect : (factors : List (List ℕ)) (all : List Expression) (joined : Bool) 
     → IsRefused (expression_at factors w (take (effect_len false rest) rest)) reason
     → IsRefused (expressions_from factors all joined (w ∷ rest)) reason
 at_effect factors all joined w rest some reason h =
-    rw some (stopped (expression_at factors w (take (effect_len false rest) rest)) _ reason h)
+    rw some (stopped _ _ reason h)
 
 pub loop-i-preserved : goal.loop-i-preserved
 loop-i-preserved c =
@@ -32,17 +31,17 @@ loop-i-preserved c =
     (drop_read written c.loop-i.i w (omega arith) c.index-written-i.is) in
     elim c.if-begins_effect.branch [
       | then-begins_effect+in_ok-expression+in_ok-push b ↦
-          let one = rw (b.effect_rest-rest.ensures, take_rest written (c.loop-i.i + 1)) at b.in_ok-expression.ensures.ok
-          in
           rw (b.all-is, b.in_ok-push.ensures.ok, c.is_joining-joined.ensures) (
-            each-append (λ (e : Expression). AreNumbers e.stars) c.loop-i.all (b.in_ok-expression.expression ∷ [])
+            each-append _ c.loop-i.all _
                 c.loop-i.invariant.0 (b.in_ok-expression.ensures.numbers, tt),
-            so_far ∙ read factors c.loop-i.all joined w rest (sym b.if-begins_effect.ensures)
-                b.in_ok-expression.expression one,
+            cc (read factors c.loop-i.all joined w rest (cc)
+                b.in_ok-expression.expression
+                (rw (b.effect_rest-rest.ensures, take_rest written (c.loop-i.i + 1)) at
+                b.in_ok-expression.ensures.ok)),
           )
       | else-begins_effect b ↦
           rw (b.all-is, c.is_joining-joined.ensures)
-          (c.loop-i.invariant.0, so_far ∙ passed factors c.loop-i.all joined w rest (sym b.if-begins_effect.ensures))
+          (c.loop-i.invariant.0, cc (passed factors c.loop-i.all joined w rest (cc)))
     ]
 
 pub loop-i-init : goal.loop-i-init
@@ -51,17 +50,14 @@ loop-i-init c = rw c.new-all.ensures (tt, refl)
 pub returns-in_err-expression-clause-refused : goal.returns-in_err-expression-clause-refused
 returns-in_err-expression-clause-refused c =
     let written = c.args.written.now in
-    let factors = c.args.factors.now in
-    let w = c.index-written-i.result in
     let so_far =
-    c.loop-i.invariant.1 ∙ ap (expressions_from factors c.loop-i.all c.loop-i.joined)
-    (drop_read written c.loop-i.i w c.loop-i-test.true c.index-written-i.is) in
-    let one = rw (c.effect_rest-rest.ensures, take_rest written (c.loop-i.i + 1)) at c.in_err-expression.ensures.refused
-    in
+    c.loop-i.invariant.1 ∙ ap (expressions_from c.args.factors.now c.loop-i.all c.loop-i.joined)
+    (drop_read written c.loop-i.i c.index-written-i.result c.loop-i-test.true c.index-written-i.is) in
     refused _ _ c.in_err-expression.field-0.0 c.from_residual.ensures.1
     (rw so_far
-    (at_effect factors c.loop-i.all c.loop-i.joined w (drop (c.loop-i.i + 1) written)
-    (sym c.begins_effect.ensures ∙ c.if-begins_effect.true) c.in_err-expression.field-0.0 one))
+    (at_effect c.args.factors.now c.loop-i.all c.loop-i.joined c.index-written-i.result (drop (c.loop-i.i + 1) written)
+    (cc (c.begins_effect.ensures, c.if-begins_effect.true)) c.in_err-expression.field-0.0
+    (rw (c.effect_rest-rest.ensures, take_rest written (c.loop-i.i + 1)) at c.in_err-expression.ensures.refused)))
 
 pub returns-clause-ok : goal.returns-clause-ok
 returns-clause-ok c =

@@ -1,7 +1,5 @@
-use Rattle.std.proofs.Common.{◌≡◌, ◌∷◌, [], ℕ, List, subst, sym, ap, ◌∙◌, arith}
-use Rattle.std.specs.Result.{IfErr}
-use Rattle.fx_demands.specs.Bars.{bars_of, AreNumbers, IsCause}
-use Rattle.fx_effects.specs.Expressions.{Expression}
+use Rattle.std.proofs.Common.{subst, sym, ap, ◌∙◌, arith}
+use Rattle.fx_demands.specs.Bars.{bars_of}
 use Rattle.fx_effects.specs.Lists.{AreSmall, effects_of}
 use Rattle.fx_effects.proofs.Joined.{only, one_is}
 use Rattle.fx_effects.proofs.lists.effects_of_one.Goals as goal
@@ -9,9 +7,7 @@ use Rattle.fx_effects.proofs.lists.effects_of_one.Goals as goal
 pub returns-clause-many : goal.returns-clause-many
 returns-clause-many c =
     let e = c.index-expressions-0.result in
-    let all : c.args.expressions.now ≡ e ∷ [] =
+    let all =
     only c.args.expressions.now e c.requires.one (omega arith) c.index-expressions-0.is in
-    let small : AreNumbers e.stars = (subst AreSmall all c.requires.small).0 in
-    subst (λ (l : List ℕ). IfErr c.bars.result (IsCause l))
-    (ap (λ (x : Expression). bars_of x.stars x.upto) c.expression.view_is ∙ one_is e small ∙ ap effects_of (sym all))
-    c.bars.ensures.many
+    rw (ap (λ x. bars_of x.stars x.upto) c.expression.view_is ∙ one_is e (subst AreSmall all c.requires.small).0 ∙ ap
+    effects_of (sym all)) at c.bars.ensures.many

@@ -1,5 +1,4 @@
-use Rattle.std.proofs.Common.{ℕ, ◌≡◌, ◌<◌, [], ◌∙◌, List, Bool, eqb, length, take, get_or, sym, ap, arith, rules}
-use Rattle.std.specs.List.{list_all}
+use Rattle.std.proofs.Common.{ℕ, ◌≡◌, ◌<◌, [], ◌∙◌, List, Bool, eqb, length, get_or, sym, ap, arith, rules}
 use Rattle.std.proofs.lemmas.Bool.{and_from, eq-eqb}
 use Rattle.std.proofs.lemmas.List.{take_all, get_or_read}
 use Rattle.std.proofs.lemmas.List.Folds.{list_all_more}
@@ -16,7 +15,7 @@ returns-then-dot-code c =
       there = low;
       apart = λ e. c.if-dot-code.true
           (c.dot.ensures.product ∙ ap (dot c.args.field c.args.u.now) row ∙ e ∙ sym
-          (ap (λ (d : List ℕ). get_or d c.args.i 0) row) ∙ sym c.code.ensures);
+          (ap (λ d. get_or d c.args.i 0) row) ∙ sym c.code.ensures);
     }
 
 pub loop-k-preserved : goal.loop-k-preserved
@@ -28,11 +27,10 @@ loop-k-preserved c =
     get_or_read D c.loop-k.k c.get-d.result.now low c.get-d.ensures [] in
     let same : c.dot.result ≡ c.code.result = search rules in
     list_all_more p D c.loop-k.k [] low
-    ∙ and_from (list_all p (take c.loop-k.k D)) (p (get_or D c.loop-k.k [])) c.loop-k.invariant
+    ∙ and_from _ (p (get_or D c.loop-k.k [])) c.loop-k.invariant
     (eq-eqb _ _
     (cc (c.dot.ensures.product, c.code.ensures)))
 
 pub returns : goal.returns
 returns c =
-    let D = c.args.differences.now in
-    cc (take_all c.loop-k.k D (omega arith), c.loop-k.invariant)
+    cc (take_all c.loop-k.k c.args.differences.now (omega arith), c.loop-k.invariant)

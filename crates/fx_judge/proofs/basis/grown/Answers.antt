@@ -1,4 +1,4 @@
-use Rattle.std.proofs.Common.{ℕ, ◌<◌, ◌++◌, ◌∷◌, [], ◌∙◌, List, length, sym, ap₂, arith}
+use Rattle.std.proofs.Common.{◌<◌, [], ◌∙◌, length, arith}
 use Rattle.std.proofs.lemmas.List.{get_or_read, take_all, take_more}
 use Rattle.fx_judge.specs.Bases.{grown}
 use Rattle.fx_judge.proofs.Stepping.{grown_entry, grown_length}
@@ -9,14 +9,17 @@ loop-k-preserved c =
     let q = c.args.field in
     let rows = c.args.rows.now in
     let e = c.args.e.now in
-    let k = c.loop-k.k in
-    let low : k < length rows = omega arith in
-    let row = get_or_read rows k c.get.result.now low c.get.ensures [] in
+    let low : c.loop-k.k < length rows = omega arith in
     let entry =
-    grown_entry q rows e c.changed.result c.get.result.now c.args.i k low row c.changed.ensures.same
+    grown_entry q rows e c.changed.result c.get.result.now c.args.i c.loop-k.k low
+    (get_or_read rows c.loop-k.k c.get.result.now low c.get.ensures []) c.changed.ensures.same
     c.changed.ensures.other in
-    c.in_ok-push.ensures.ok ∙ ap₂ (λ (a : List (List ℕ)) (x : List ℕ). a ++ x ∷ []) c.loop-k.invariant entry
-    ∙ sym (take_more (grown q rows e c.args.i) k [] (omega (arith, grown_length q rows e c.args.i)))
+    cc (
+      c.in_ok-push.ensures.ok,
+      c.loop-k.invariant,
+      take_more (grown q rows e c.args.i) c.loop-k.k []
+          (omega (arith, grown_length q rows e c.args.i)),
+    )
 
 pub returns : goal.returns
 returns c =

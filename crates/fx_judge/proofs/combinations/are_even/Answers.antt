@@ -1,6 +1,5 @@
-use Rattle.std.proofs.Common.{rules, ◌≡◌, ◌<◌, ◌≤◌, ◌^◌, map, length, arith}
-use Rattle.fx_judge.specs.Bases.{basic_key, rank}
-use Rattle.fx_judge.specs.Tallies.{AreValueCounts}
+use Rattle.std.proofs.Common.{rules, ◌≡◌, ◌<◌, ◌≤◌, ◌^◌, length, arith}
+use Rattle.fx_judge.specs.Bases.{rank}
 use Rattle.fx_judge.proofs.Keys.{even_if_equal, equal_if_even}
 use Rattle.fx_judge.proofs.combinations.are_even.Goals as goal
 
@@ -13,7 +12,7 @@ returns-in-Some c =
     cc (c.in-Some.ensures.0, c.as_slice.ensures.value) in
     let few : c.in-Some.size ≤ length D = search rules in
     let some : 0 < c.in-Some.size = search rules in
-    let tallied : AreValueCounts 4096 (map (basic_key q marks) D) c.tally.result =
+    let tallied =
     rw c.as_slice-in-Some.ensures.value at c.tally.ensures in
     let first : 0 < q ^ rank marks = omega arith in
     let most : q ^ rank marks ≤ 4096 = omega arith in (

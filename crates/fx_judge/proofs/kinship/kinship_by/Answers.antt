@@ -1,7 +1,6 @@
 use Rattle.std.proofs.Common.{arith}
 use Rattle.std.proofs.lemmas.Bool.{both_ways}
 use Rattle.fx_laws.proofs.Tables.{is_order-field}
-use Rattle.fx_judge.specs.Tallies.{AreExpected}
 use Rattle.fx_judge.proofs.Kinships.{orthogonal_decides, kinship_aliased, kinship_orthogonal, kinship_partial}
 use Rattle.fx_judge.proofs.kinship.kinship_by.Goals as goal
 
@@ -18,10 +17,9 @@ returns-then-are_expected c = λ rows u v len l r p.
     let told =
     orthogonal_decides q f c.q-levels.ensures.most rows u v c.args.pairs.now p c.args.runs c.args.left.now
     c.args.right.now len l r in
-    let is : AreExpected q c.args.runs c.args.left.now c.args.right.now c.args.pairs.now =
-    rw c.q-levels.ensures.order at (c.are_expected.ensures.0 c.if-are_expected.true) in
     kinship_orthogonal q f c.q-levels.ensures.most rows u v c.args.pairs.now p (omega arith)
-    (λ h. both_ways _ c.if-has_line.false (c.has_line.ensures.1 h)) (told.1 is)
+    (λ h. both_ways _ c.if-has_line.false (c.has_line.ensures.1 h))
+    (told.1 (rw c.q-levels.ensures.order at (c.are_expected.ensures.0 c.if-are_expected.true)))
 
 pub returns : goal.returns
 returns c = λ rows u v len l r p.

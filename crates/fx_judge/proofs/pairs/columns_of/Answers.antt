@@ -1,4 +1,4 @@
-use Rattle.std.proofs.Common.{ℕ, ◌<◌, ◌++◌, ◌∷◌, ◌∙◌, List, [], length, map, sym, ap, ap₂, arith}
+use Rattle.std.proofs.Common.{ℕ, ◌<◌, ◌∷◌, List, [], length, arith}
 use Rattle.std.proofs.lemmas.List.{get_or_read, map-append, take_more}
 use Rattle.std.proofs.lemmas.List.Elements.{All-push, All-same}
 use Rattle.fx_judge.specs.declared.pairs.Column.{Column}
@@ -15,12 +15,15 @@ loop-i-preserved c =
     let here = get_or_read components c.loop-i.i c.get.result.now low c.get.ensures [] in
     record {
       columns =
-          All-same (IsColumn c.args.plan.now) c.push.new.self (columns ++ column ∷ []) c.in_ok-push.ensures.ok
+          All-same (IsColumn c.args.plan.now) c.push.new.self _ c.in_ok-push.ensures.ok
           (All-push (IsColumn c.args.plan.now) columns column c.loop-i.invariant.columns
           c.in_ok-column_of.ensures.column);
       components =
-          ap (map component) c.in_ok-push.ensures.ok ∙ map-append component columns (column ∷ [])
-          ∙ ap₂ (λ (a : List (List ℕ)) (x : List ℕ). a ++ x ∷ []) c.loop-i.invariant.components
-          (c.in_ok-column_of.ensures.component ∙ here)
-          ∙ sym (take_more components c.loop-i.i [] low);
+          cc (
+            c.in_ok-push.ensures.ok,
+            map-append component columns (column ∷ []),
+            c.loop-i.invariant.components,
+            c.in_ok-column_of.ensures.component,
+            take_more components c.loop-i.i [] low,
+          );
     }

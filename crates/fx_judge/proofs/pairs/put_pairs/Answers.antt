@@ -11,6 +11,6 @@ loop-v-preserved c =
     let k = c.loop-v.v-index in
     let low : k < length later = omega arith in
     let is = ap with c.v-item.is ∙ sym (get_or-map with later k c.v-item.result (with c.v-item.result) low) in
-    pairs_more c.args.plan.now (map with later) k (with c.v-item.result) (with c.v-item.result) c.args.pairs.now
+    pairs_more c.args.plan.now (map with later) k _ _ c.args.pairs.now
     c.loop-v.pairs c.put_pair.new.pairs
     (rw (length-map later with) low) is c.loop-v.invariant c.in_ok-put_pair.ensures

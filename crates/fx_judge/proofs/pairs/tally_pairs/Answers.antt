@@ -37,27 +37,32 @@ bounds-pairs-from-in-loop-i c =
 
 pub loop-i-preserved : goal.loop-i-preserved
 loop-i-preserved c =
-    let plan = c.args.plan.now in
     let q = c.args.plan.now.q in
     let rows = c.args.plan.now.rows in
-    let i = c.loop-i.i in
-    let low : i < length rows = omega arith in
+    let low : c.loop-i.i < length rows = omega arith in
     let both : List ℕ → ℕ = λ x. 9 * dot q c.args.u.now.component x + dot q c.args.v.now.component x in
-    let a : c.from.result ≡ dot q c.args.u.now.component (get_or rows i []) =
-    cc (c.from.ensures, c.as_slice-us.ensures, column_value plan c.args.u.now c.requires.first i low) in
-    let b : c.from-in-loop-i.result ≡ dot q c.args.v.now.component (get_or rows i []) =
-    cc (c.from-in-loop-i.ensures, c.as_slice-vs.ensures, column_value plan c.args.v.now c.requires.second i low) in
+    let a : c.from.result ≡ dot q c.args.u.now.component (get_or rows c.loop-i.i []) =
+    cc (
+      c.from.ensures,
+      c.as_slice-us.ensures,
+      column_value c.args.plan.now c.args.u.now c.requires.first c.loop-i.i
+          low,
+    ) in
+    let b : c.from-in-loop-i.result ≡ dot q c.args.v.now.component (get_or rows c.loop-i.i []) =
+    cc (
+      c.from-in-loop-i.ensures,
+      c.as_slice-vs.ensures,
+      column_value c.args.plan.now c.args.v.now c.requires.second
+          c.loop-i.i low,
+    ) in
     let nine = (order-bounds q c.len-i-end.ensures.valid.order).1 in
     let f = is_order-field q c.len-i-end.ensures.valid.order in
-    counted_more 81 (map both rows) c.loop-i.pairs i (9 * c.from.result + c.from-in-loop-i.result)
-    (rw (length-map rows both) low) (cc (value_at both rows i [] low))
+    counted_more 81 (map both rows) c.loop-i.pairs c.loop-i.i _
+    (rw (length-map rows both) low) (cc (value_at both rows c.loop-i.i [] low))
     (omega (
       arith,
-      a,
-      b,
-      nine,
-      dot_code q f c.args.u.now.component (get_or rows i []),
+      dot_code q f c.args.u.now.component (get_or rows c.loop-i.i []),
       dot_code q f
-          c.args.v.now.component (get_or rows i []),
+          c.args.v.now.component (get_or rows c.loop-i.i []),
     ))
     c.loop-i.invariant

@@ -1,4 +1,4 @@
-use Rattle.std.proofs.Common.{ℕ, ◌≡◌, ◌∙◌, List, None, length, map, take, sym, ap, arith}
+use Rattle.std.proofs.Common.{◌≡◌, ◌∙◌, length, map, take, sym, ap, arith}
 use Rattle.std.proofs.lemmas.List.{length-map, length-take}
 use Rattle.csv.specs.Records.{fields_of}
 use Rattle.fx_judge.specs.Reading.{first_fault, plan_in, csv_records}
@@ -10,12 +10,10 @@ pub plan_from-requires : goal.plan_from-requires
 plan_from-requires c =
     omega (
       arith,
-      ap (λ (l : List (List (List ℕ))). length l) c.in-Ok.ensures,
+      ap length c.in-Ok.ensures,
       length-map c.in-Ok.records.items
           fields_of,
       length-take 4098 (csv_records c.args.text.now),
-      c.as_slice.ensures.len,
-      c.as_slice.ensures.value,
       c.in-Ok.records.ok.0,
     )
 
@@ -33,14 +31,12 @@ returns-clause-none c =
 
 pub returns-clause-plan : goal.returns-clause-plan
 returns-clause-plan c =
-    let text = c.args.text.now in
-    let q = c.args.field in
-    both_ok (λ plan. first_fault q (map fields_of c.as_slice.result.now) ≡ None)
-    (λ plan. plan ≡ plan_in q (map fields_of c.as_slice.result.now)) (λ plan. plan ≡ plan_in q (csv_records text))
+    both_ok _
+    _ (λ plan. plan ≡ plan_in c.args.field (csv_records c.args.text.now))
     c.plan_from.result c.plan_from.ensures.none c.plan_from.ensures.plan
     (λ plan none is. cc (
       front (goal.at.returns-clause-plan c).After-plan_from,
-      whole_cut q 4098 (csv_records text) (omega arith)
+      whole_cut c.args.field 4098 _ (omega arith)
           (sym (told (goal.at.returns-clause-plan c).After-plan_from) ∙ none),
     ))
 

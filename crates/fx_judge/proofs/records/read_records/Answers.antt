@@ -1,4 +1,4 @@
-use Rattle.std.proofs.Common.{Bor, List, ℕ, ◌≡◌, ◌+◌, ◌∙◌, sym, refl, rules, inl, inr, true, map, length, Some, ◌∷◌, []}
+use Rattle.std.proofs.Common.{Bor, List, ℕ, ◌≡◌, ◌+◌, ◌∙◌, refl, rules, inl, inr, true, map, length, Some, ◌∷◌, []}
 use Rattle.std.proofs.Common.{arith, lit<}
 use Rattle.std.specs.Result.{is_ok}
 use Rattle.std.proofs.lemmas.List.{map-append, length_push, length-map}
@@ -16,16 +16,14 @@ loop-record-init c =
     let e = c.has_headers.ensures in
     let g = c.flexible.ensures in
     let start = c.into_iter-record-iterator.ensures.into_iter_gives ∙ refl in
-    let rdr = c.into_byte_records-record-items.ensures.rdr in
-    let left = c.into_byte_records-record-items.ensures.left in
-    rw (start, rdr, c.new-records.ensures.items) (
+    rw (start, c.into_byte_records-record-items.ensures.rdr, c.new-records.ensures.items) (
       rw (g, e) at fr.trim ∙ c.new.ensures.trim,
       inr (inr (rw (g, e) at fr.has_headers, fr.headers)),
-      left,
+      c.into_byte_records-record-items.ensures.left,
       rw (g, e) at fr.config ∙ c.new.ensures.config,
       strip_bom c.args.text.now,
       fr.source,
-      (sym fr.state, refl),
+      (cc, refl),
       lit< tt,
     )
 
@@ -40,10 +38,10 @@ loop-record-preserved c =
     (map fields_of c.loop-record.records.items) inv.3 inv.5 inv.6 s.0 in
     let long : length c.push.new.self.items ≡ length c.loop-record.records.items + 1 =
     cc (length_push c.loop-record.records.items c.in-Ok.record) in (
-      s.0.3 ∙ inv.0,
+      cc,
       inl s.1,
       s.2,
-      s.0.2 ∙ inv.3,
+      cc,
       m.0,
       m.1,
       rw (items, map-append fields_of c.loop-record.records.items (c.in-Ok.record ∷ [])) m.2,
@@ -59,10 +57,8 @@ returns-then-len-eq4098 c =
     let m = rows-more (λ (s : Bor (List ℕ)). Some s.now) c.loop-record.record-iterator.rdr c.next.new.self.rdr
     (fields_of c.in-Ok.record) default_config st.StartRecord (strip_bom c.args.text.now) inv.4
     (map fields_of c.loop-record.records.items) inv.3 inv.5 inv.6 s.0 in
-    let reached : Reached default_config st.StartRecord (strip_bom c.args.text.now)
-    (map fields_of c.push.new.self.items) c.next.new.self.rdr.state m.0 =
-    rw (items, map-append fields_of c.loop-record.records.items (c.in-Ok.record ∷ [])) m.2 in
-    front_of_text c.args.text.now (map fields_of c.push.new.self.items) c.next.new.self.rdr.state m.0 4098 reached
+    front_of_text c.args.text.now (map fields_of c.push.new.self.items) c.next.new.self.rdr.state m.0 4098
+    (rw (items, map-append fields_of c.loop-record.records.items (c.in-Ok.record ∷ [])) m.2)
     (length-map c.push.new.self.items fields_of ∙ omega arith)
 
 pub returns : goal.returns
@@ -72,6 +68,6 @@ returns c =
     let none =
     rows-end (λ (s : Bor (List ℕ)). Some s.now) c.loop-record.record-iterator.rdr c.next.new.self.rdr []
     default_config inv.4 inv.3 inv.5 s in
-    whole_text c.args.text.now (map fields_of c.loop-record.records.items) c.loop-record.record-iterator.rdr.state inv.4
+    whole_text c.args.text.now _ c.loop-record.record-iterator.rdr.state inv.4
     4098 inv.6 none
     (omega (arith, length-map c.loop-record.records.items fields_of))

@@ -1,4 +1,4 @@
-use Rattle.std.proofs.Common.{ℕ, ◌≡◌, ◌<◌, ◌++◌, ◌∷◌, [], ◌∙◌, List, length, get_or, sym, subst, ap, ap₂, arith}
+use Rattle.std.proofs.Common.{◌≡◌, [], ◌∙◌, length, get_or, sym, ap, ap₂, arith}
 use Rattle.std.proofs.lemmas.List.{take_all, take_more}
 use Rattle.std.proofs.lemmas.List.Elements.{All-push, All-same}
 use Rattle.fx_designs.specs.Galois.{neg}
@@ -13,36 +13,35 @@ loop-i-preserved c =
     let q = c.args.plan.now.q in
     let s = length c.args.plan.now.names in
     let rows = c.args.plan.now.rows in
-    let i = c.loop-i.i in
     let f = is_order-field q c.field-field.ensures.valid.order in
-    let low : i < length rows = omega arith in
-    let field = c.field-field.ensures.field in
-    let x : c.copy_of-d.result ≡ get_or rows i [] = c.copy_of-d.ensures ∙ c.row.ensures.row in
+    let x = c.copy_of-d.ensures ∙ c.row.ensures.row in
     let m : c.neg-minus_one.result ≡ neg q 1 = cc c.neg-minus_one.ensures.negative in
-    let is : c.add_scaled.new.self ≡ get_or (row_differences q rows) i [] =
+    let is =
     c.add_scaled.ensures.sum
-    ∙ ap (λ (k : ℕ). plus k c.copy_of-d.result (scale k c.neg-minus_one.result c.row-in-loop-i.result.now)) field
-    ∙ ap₂ (λ (v : List ℕ) (n : ℕ). plus q v (scale q n c.row-in-loop-i.result.now)) x m
-    ∙ ap (λ (v : List ℕ). plus q (get_or rows i []) (scale q (neg q 1) v)) c.row-in-loop-i.ensures.row
-    ∙ sym (differences_at q f rows i low) in
+    ∙ ap (λ k. plus k c.copy_of-d.result (scale k c.neg-minus_one.result c.row-in-loop-i.result.now))
+    c.field-field.ensures.field
+    ∙ ap₂ (λ v n. plus q v (scale q n c.row-in-loop-i.result.now)) x m
+    ∙ ap (λ v. plus q (get_or rows c.loop-i.i []) (scale q (neg q 1) v)) c.row-in-loop-i.ensures.row
+    ∙ sym (differences_at q f rows c.loop-i.i (omega arith)) in
     let long : length c.copy_of-d.result ≡ s =
     cc (c.copy_of-d.ensures, c.row.ensures.vector.len) in
-    let vector : IsVector q s c.add_scaled.new.self =
-    rw long at (subst (λ (k : ℕ). IsVector k (length c.copy_of-d.result) c.add_scaled.new.self) field
-    c.add_scaled.ensures.vector) in
     record {
       so_far =
-          c.in_ok-push.ensures.ok ∙ ap₂ (λ (a : List (List ℕ)) (x : List ℕ). a ++ x ∷ []) c.loop-i.invariant.so_far is
-          ∙ sym (take_more (row_differences q rows) i [] (omega (arith, differences_len q f rows)));
+          cc (
+            c.in_ok-push.ensures.ok,
+            c.loop-i.invariant.so_far,
+            take_more (row_differences q rows) c.loop-i.i []
+                (omega (arith, differences_len q f rows)),
+          );
       each =
-          All-same (λ d. IsVector q s d) c.push.new.self (c.loop-i.found ++ c.add_scaled.new.self ∷ [])
+          All-same (λ d. IsVector q s d) c.push.new.self _
           c.in_ok-push.ensures.ok
-          (All-push (λ d. IsVector q s d) c.loop-i.found c.add_scaled.new.self c.loop-i.invariant.each vector);
+          (All-push (λ d. IsVector q s d) c.loop-i.found c.add_scaled.new.self c.loop-i.invariant.each
+          (rw long at (rw c.field-field.ensures.field at c.add_scaled.ensures.vector)));
     }
 
 pub returns-clause-list : goal.returns-clause-list
 returns-clause-list c =
     let q = c.args.plan.now.q in
-    let rows = c.args.plan.now.rows in
-    let f = is_order-field q c.field-field.ensures.valid.order in
-    c.loop-i.invariant.so_far ∙ take_all c.loop-i.i (row_differences q rows) (omega (arith, differences_len q f rows))
+    c.loop-i.invariant.so_far ∙ take_all c.loop-i.i (row_differences q c.args.plan.now.rows)
+    (omega (arith, differences_len q (is_order-field q c.field-field.ensures.valid.order) c.args.plan.now.rows))

@@ -1,4 +1,4 @@
-use Rattle.std.proofs.Common.{length, arith}
+use Rattle.std.proofs.Common.{arith}
 use Rattle.std.proofs.lemmas.Bool.{both_ways}
 use Rattle.fx_vectors.proofs.Limits.{order-bounds}
 use Rattle.fx_judge.proofs.Regulars.{each_fits, even_within, none_if_uneven, rules_if_even, rules_over}
@@ -25,10 +25,9 @@ returns-then-are_even-clause-rules c =
 
 pub returns-then-are_even-clause-each : goal.returns-then-are_even-clause-each
 returns-then-are_even-clause-each c =
-    let q = c.args.plan.now.q in
-    let s = length c.args.plan.now.names in
     rw c.in_ok-differences.ensures.rules
-    (rules_over q s c.args.plan.now.rows (omega (arith, order-bounds q c.field.ensures.valid.order)))
+    (rules_over c.args.plan.now.q _ c.args.plan.now.rows
+    (omega (arith, order-bounds c.args.plan.now.q c.field.ensures.valid.order)))
 
 pub returns-clause-rules : goal.returns-clause-rules
 returns-clause-rules c =

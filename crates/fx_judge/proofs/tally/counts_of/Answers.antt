@@ -1,4 +1,4 @@
-use Rattle.std.proofs.Common.{ℕ, ◌≡◌, ◌<◌, ◌∙◌, List, length, map, get_or, [], sym, arith}
+use Rattle.std.proofs.Common.{ℕ, ◌≡◌, ◌<◌, List, length, map, get_or, [], arith}
 use Rattle.std.proofs.lemmas.List.{length-map}
 use Rattle.fx_designs.specs.Vectors.{dot}
 use Rattle.fx_vectors.proofs.Limits.{order-bounds}
@@ -9,12 +9,11 @@ pub loop-i-preserved : goal.loop-i-preserved
 loop-i-preserved c =
     let q = c.args.plan.now.q in
     let rows = c.args.plan.now.rows in
-    let i = c.loop-i.i in
     let f : List ℕ → ℕ = λ x. dot q c.args.u.now x in
     let nine = (order-bounds q c.len-i-end.ensures.valid.order).1 in
-    let there : i < length rows = omega arith in
-    let a : c.from.result ≡ dot q c.args.u.now (get_or rows i []) =
+    let there : c.loop-i.i < length rows = omega arith in
+    let a : c.from.result ≡ dot q c.args.u.now (get_or rows c.loop-i.i []) =
     cc (c.from.ensures, c.dot.ensures.product, c.field-field.ensures.field, c.row.ensures.row) in
-    counted_more 9 (map f rows) c.loop-i.counts i c.from.result
-    (rw (length-map rows f) there) (value_at f rows i [] there ∙ sym a)
+    counted_more 9 (map f rows) c.loop-i.counts c.loop-i.i c.from.result
+    (rw (length-map rows f) there) (cc (value_at f rows c.loop-i.i [] there))
     (omega arith) c.loop-i.invariant

@@ -1,4 +1,4 @@
-use Rattle.std.proofs.Common.{◌≡◌, ◌∙◌, ◌<◌, ◌+◌, ◌++◌, ◌∷◌, [], ℕ, List, length, map, take, take_all, get_or, refl, ap}
+use Rattle.std.proofs.Common.{◌≡◌, ◌∙◌, ◌<◌, ◌+◌, ◌++◌, ◌∷◌, [], ℕ, List, length, map, take, take_all, get_or}
 use Rattle.std.specs.Char.{to_ascii_lowercase}
 use Rattle.std.proofs.lemmas.List.{take_more, map-append}
 use Rattle.fx_outputs.proofs.earlier.folded.Goals as goal
@@ -6,7 +6,7 @@ use Rattle.fx_outputs.proofs.earlier.folded.Goals as goal
 -- one byte more in lowercase
 one_more : (f : ℕ → ℕ) (xs done : List ℕ) (i x : ℕ) → i < length xs → done ≡ map f (take i xs) → x ≡ f (get_or xs i 0)
     → done ++ x ∷ [] ≡ map f (take (i + 1) xs)
-one_more f xs done i x within so_far is = rw (so_far, is, take_more xs i 0 within, map-append) refl
+one_more f xs done i x within so_far is = rw (so_far, is, take_more xs i 0 within, map-append)
 
 pub loop-byte-preserved : goal.loop-byte-preserved
 loop-byte-preserved c =
@@ -15,5 +15,4 @@ loop-byte-preserved c =
 
 pub returns : goal.returns
 returns c =
-    c.loop-byte.invariant ∙ ap (map to_ascii_lowercase)
-    (take_all c.loop-byte.byte-index c.args.name.now c.loop-byte-test.false)
+    cc (c.loop-byte.invariant, take_all c.loop-byte.byte-index c.args.name.now c.loop-byte-test.false)

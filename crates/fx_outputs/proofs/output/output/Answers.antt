@@ -1,4 +1,4 @@
-use Rattle.std.proofs.Common.{◌≡◌, ℕ, List, Result, Ok, Err, drop, refl, ap}
+use Rattle.std.proofs.Common.{◌≡◌, ℕ, List, Result, Ok, Err, drop, ap}
 use Rattle.std.specs.Prelude.{slice_get}
 use Rattle.fx_language.specs.declared.symbol.Symbol.TheVariants.{Blockname}
 use Rattle.fx_text.specs.declared.refusal.Refusal.{Refusal}
@@ -31,24 +31,24 @@ module _ (context : Context) (earlier : List EarlierPlan) (word name : Written) 
 
   module _ (fresh : check_new_name (plan_names earlier) name ≡ Ok tt) where
     at_reps : (reason : ParseStop) → IsRefused (reps_of earlier s) reason → IsRefused meaning reason
-    at_reps reason h = rw fresh (stopped (reps_of earlier s) _ reason h)
+    at_reps reason h = rw fresh (stopped _ _ reason h)
 
     module _ (reps : Rep × Rep) (each all runs : ℕ) (repeated : reps_of earlier s ≡ Ok reps)
         (inner : each ≡ rep_rows earlier reps.0) (outer : all ≡ rep_rows earlier reps.1)
         (most : runs ≡ context.runs) where
       at_rows : (refusal : Refusal) → Err refusal ≡ check_rows runs each all name → meaning ≡ Err refusal
-      at_rows refusal e = rw (fresh, repeated, ← rw (inner, outer, most) at e) refl
+      at_rows refusal e = rw (fresh, repeated, ← rw (inner, outer, most) at e)
 
       module _ (few : Ok tt ≡ check_rows runs each all name) where
         at_shuffle : (refusal : Refusal) → Err refusal ≡ shuffle_of s → meaning ≡ Err refusal
-        at_shuffle refusal e = rw (fresh, repeated, ← rw (inner, outer, most) at few, ← e) refl
+        at_shuffle refusal e = rw (fresh, repeated, ← rw (inner, outer, most) at few, ← e)
 
         module _ (shuffle : Shuffle) (column : List Written) (blocks : BlockCount) (asked : Ok shuffle ≡ shuffle_of s)
             (behind : column ≡ option_of Blockname s) (own : blocks ≡ context.blocks) where
           at_blockname : (refusal : Refusal) → Err refusal ≡ check_blockname blocks (slice_get column 0)
               → meaning ≡ Err refusal
           at_blockname refusal e =
-              rw (← behind, fresh, repeated, ← rw (inner, outer, most) at few, ← asked, ← rw own at e) refl
+              rw (← behind, fresh, repeated, ← rw (inner, outer, most) at few, ← asked, ← rw own at e)
 
           module _ (named : Ok tt ≡ check_blockname blocks (slice_get column 0)) where
             at_column : (refusal : Refusal) → Err refusal ≡ check_column context word (slice_get column 2)
@@ -62,7 +62,7 @@ module _ (context : Context) (earlier : List EarlierPlan) (word name : Written) 
                   ← asked,
                   ← rw own at named,
                   ← e,
-                ) refl
+                )
 
             module _ (free : Ok tt ≡ check_column context word (slice_get column 2)) where
               at_values : (reason : ParseStop)
@@ -78,7 +78,7 @@ module _ (context : Context) (earlier : List EarlierPlan) (word name : Written) 
                     ← rw own at named,
                     ← free,
                   )
-                  (stopped (block_values context.blocks (drop 3 column)) _ reason (rw own at h))
+                  (stopped _ _ reason (rw own at h))
 
               module _ (values : List (List ℕ))
                   (given : block_values blocks (drop 3 column) ≡ Ok values) where
@@ -94,7 +94,7 @@ module _ (context : Context) (earlier : List EarlierPlan) (word name : Written) 
                       ← free,
                       rw own at given,
                     )
-                    (stopped (columns_of context s) _ reason h)
+                    (stopped _ _ reason h)
 
                 module _ (columns : Columns) (read : columns_of context s ≡ Ok columns) where
                   abbrev test : Result (Unit {0}) Refusal
@@ -140,12 +140,12 @@ module _ (context : Context) (earlier : List EarlierPlan) (word name : Written) 
                         rw own at given,
                         read,
                         differ,
-                      ) refl
+                      )
 
 pub returns-in_err-check_new_name-clause-refused : goal.returns-in_err-check_new_name-clause-refused
 returns-in_err-check_new_name-clause-refused c =
     refused _ _ c.in_err-check_new_name.field-0.0 c.from_residual.ensures.1
-    (stopped (check_new_name (plan_names c.args.earlier.now) c.args.name.now) _ _
+    (stopped _ _ _
     c.in_err-check_new_name.ensures.refused)
 
 pub returns-in_err-reps-clause-refused : goal.returns-in_err-reps-clause-refused
@@ -156,36 +156,36 @@ returns-in_err-reps-clause-refused c =
 
 pub returns-in_err-check_rows-clause-refused : goal.returns-in_err-check_rows-clause-refused
 returns-in_err-check_rows-clause-refused c =
-    refused _ _ (stop.Refused c.in_err-check_rows.field-0.0) c.from_residual-in_err-check_rows.ensures.1
+    refused _ _ _ c.from_residual-in_err-check_rows.ensures.1
     (at_rows c.args.context.now c.args.earlier.now c.args.word.now c.args.name.now c.args.options.now
     c.in_ok-check_new_name.ensures.ok c.in_ok-reps.reps _ _ _ c.in_ok-reps.ensures.ok c.rep_rows-each.ensures
-    c.rep_rows-all.ensures (ap (λ (x : Context). x.runs) c.context.view_is) _ c.in_err-check_rows.ensures)
+    c.rep_rows-all.ensures (ap (λ x. x.runs) c.context.view_is) _ c.in_err-check_rows.ensures)
 
 pub returns-in_err-shuffle-clause-refused : goal.returns-in_err-shuffle-clause-refused
 returns-in_err-shuffle-clause-refused c =
-    refused _ _ (stop.Refused c.in_err-shuffle.field-0.0) c.from_residual-in_err-shuffle.ensures.1
+    refused _ _ _ c.from_residual-in_err-shuffle.ensures.1
     (at_shuffle c.args.context.now c.args.earlier.now c.args.word.now c.args.name.now c.args.options.now
     c.in_ok-check_new_name.ensures.ok c.in_ok-reps.reps _ _ _ c.in_ok-reps.ensures.ok c.rep_rows-each.ensures
-    c.rep_rows-all.ensures (ap (λ (x : Context). x.runs) c.context.view_is) c.in_ok-check_rows.ensures _
+    c.rep_rows-all.ensures (ap (λ x. x.runs) c.context.view_is) c.in_ok-check_rows.ensures _
     c.in_err-shuffle.ensures)
 
 pub returns-in_err-check_blockname-clause-refused : goal.returns-in_err-check_blockname-clause-refused
 returns-in_err-check_blockname-clause-refused c =
-    refused _ _ (stop.Refused c.in_err-check_blockname.field-0.0) c.from_residual-in_err-check_blockname.ensures.1
+    refused _ _ _ c.from_residual-in_err-check_blockname.ensures.1
     (at_blockname c.args.context.now c.args.earlier.now c.args.word.now c.args.name.now c.args.options.now
     c.in_ok-check_new_name.ensures.ok c.in_ok-reps.reps _ _ _ c.in_ok-reps.ensures.ok c.rep_rows-each.ensures
-    c.rep_rows-all.ensures (ap (λ (x : Context). x.runs) c.context.view_is) c.in_ok-check_rows.ensures _ _ _
+    c.rep_rows-all.ensures (ap (λ x. x.runs) c.context.view_is) c.in_ok-check_rows.ensures _ _ _
     c.in_ok-shuffle.ensures
-    c.option_of-blockname.ensures (ap (λ (x : Context). x.blocks) c.context.view_is) _ c.in_err-check_blockname.ensures)
+    c.option_of-blockname.ensures (ap (λ x. x.blocks) c.context.view_is) _ c.in_err-check_blockname.ensures)
 
 pub returns-in_err-check_column-clause-refused : goal.returns-in_err-check_column-clause-refused
 returns-in_err-check_column-clause-refused c =
-    refused _ _ (stop.Refused c.in_err-check_column.field-0.0) c.from_residual-in_err-check_column.ensures.1
+    refused _ _ _ c.from_residual-in_err-check_column.ensures.1
     (at_column c.args.context.now c.args.earlier.now c.args.word.now c.args.name.now c.args.options.now
     c.in_ok-check_new_name.ensures.ok c.in_ok-reps.reps _ _ _ c.in_ok-reps.ensures.ok c.rep_rows-each.ensures
-    c.rep_rows-all.ensures (ap (λ (x : Context). x.runs) c.context.view_is) c.in_ok-check_rows.ensures _ _ _
+    c.rep_rows-all.ensures (ap (λ x. x.runs) c.context.view_is) c.in_ok-check_rows.ensures _ _ _
     c.in_ok-shuffle.ensures
-    c.option_of-blockname.ensures (ap (λ (x : Context). x.blocks) c.context.view_is)
+    c.option_of-blockname.ensures (ap (λ x. x.blocks) c.context.view_is)
     c.in_ok-check_blockname.ensures _ c.in_err-check_column.ensures)
 
 pub returns-in_err-block_values-clause-refused : goal.returns-in_err-block_values-clause-refused
@@ -193,9 +193,9 @@ returns-in_err-block_values-clause-refused c =
     refused _ _ c.in_err-block_values.field-0.0 c.from_residual-in_err-block_values.ensures.1
     (at_values c.args.context.now c.args.earlier.now c.args.word.now c.args.name.now c.args.options.now
     c.in_ok-check_new_name.ensures.ok c.in_ok-reps.reps _ _ _ c.in_ok-reps.ensures.ok c.rep_rows-each.ensures
-    c.rep_rows-all.ensures (ap (λ (x : Context). x.runs) c.context.view_is) c.in_ok-check_rows.ensures _ _ _
+    c.rep_rows-all.ensures (ap (λ x. x.runs) c.context.view_is) c.in_ok-check_rows.ensures _ _ _
     c.in_ok-shuffle.ensures
-    c.option_of-blockname.ensures (ap (λ (x : Context). x.blocks) c.context.view_is)
+    c.option_of-blockname.ensures (ap (λ x. x.blocks) c.context.view_is)
     c.in_ok-check_blockname.ensures c.in_ok-check_column.ensures _
     c.in_err-block_values.ensures.refused)
 
@@ -204,9 +204,9 @@ returns-in_err-columns-clause-refused c =
     refused _ _ c.in_err-columns.field-0.0 c.from_residual-in_err-columns.ensures.1
     (at_columns c.args.context.now c.args.earlier.now c.args.word.now c.args.name.now c.args.options.now
     c.in_ok-check_new_name.ensures.ok c.in_ok-reps.reps _ _ _ c.in_ok-reps.ensures.ok c.rep_rows-each.ensures
-    c.rep_rows-all.ensures (ap (λ (x : Context). x.runs) c.context.view_is) c.in_ok-check_rows.ensures _ _ _
+    c.rep_rows-all.ensures (ap (λ x. x.runs) c.context.view_is) c.in_ok-check_rows.ensures _ _ _
     c.in_ok-shuffle.ensures
-    c.option_of-blockname.ensures (ap (λ (x : Context). x.blocks) c.context.view_is)
+    c.option_of-blockname.ensures (ap (λ x. x.blocks) c.context.view_is)
     c.in_ok-check_blockname.ensures c.in_ok-check_column.ensures _ c.in_ok-block_values.ensures.ok _
     c.in_err-columns.ensures.refused)
 
@@ -215,9 +215,9 @@ returns-in_err-check_columns-clause-refused c =
     refused _ _ c.in_err-check_columns.field-0.0 c.from_residual-in_err-check_columns.ensures.1
     (at_names c.args.context.now c.args.earlier.now c.args.word.now c.args.name.now c.args.options.now
     c.in_ok-check_new_name.ensures.ok c.in_ok-reps.reps _ _ _ c.in_ok-reps.ensures.ok c.rep_rows-each.ensures
-    c.rep_rows-all.ensures (ap (λ (x : Context). x.runs) c.context.view_is) c.in_ok-check_rows.ensures _ _ _
+    c.rep_rows-all.ensures (ap (λ x. x.runs) c.context.view_is) c.in_ok-check_rows.ensures _ _ _
     c.in_ok-shuffle.ensures
-    c.option_of-blockname.ensures (ap (λ (x : Context). x.blocks) c.context.view_is)
+    c.option_of-blockname.ensures (ap (λ x. x.blocks) c.context.view_is)
     c.in_ok-check_blockname.ensures c.in_ok-check_column.ensures _ c.in_ok-block_values.ensures.ok
     c.in_ok-columns.columns c.in_ok-columns.ensures.ok _
     (rw (c.as_slice-derived.ensures, c.as_slice.ensures, c.in_ok-block_name.ensures) at
@@ -240,9 +240,9 @@ returns-clause-ok c =
     )
     (is_read c.args.context.now c.args.earlier.now c.args.word.now c.args.name.now c.args.options.now
     c.in_ok-check_new_name.ensures.ok c.in_ok-reps.reps _ _ _ c.in_ok-reps.ensures.ok c.rep_rows-each.ensures
-    c.rep_rows-all.ensures (ap (λ (x : Context). x.runs) c.context.view_is) c.in_ok-check_rows.ensures _ _ _
+    c.rep_rows-all.ensures (ap (λ x. x.runs) c.context.view_is) c.in_ok-check_rows.ensures _ _ _
     c.in_ok-shuffle.ensures
-    c.option_of-blockname.ensures (ap (λ (x : Context). x.blocks) c.context.view_is)
+    c.option_of-blockname.ensures (ap (λ x. x.blocks) c.context.view_is)
     c.in_ok-check_blockname.ensures c.in_ok-check_column.ensures _ c.in_ok-block_values.ensures.ok
     c.in_ok-columns.columns c.in_ok-columns.ensures.ok
     (rw (c.as_slice-derived.ensures, c.as_slice.ensures, c.in_ok-block_name.ensures) at

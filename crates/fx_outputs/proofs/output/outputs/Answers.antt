@@ -4,8 +4,7 @@ use Rattle.std.proofs.lemmas.Result.{err_from_is_err_and}
 use Rattle.std.proofs.Math.Numerals.{add-one}
 use Rattle.std.proofs.Math.Seq.{drop-cons}
 use Rattle.fx_text.specs.Refusals.{IsRefused}
-use Rattle.fx_outputs.specs.declared.earlier.EarlierPlan.{EarlierPlan}
-use Rattle.fx_outputs.specs.Outputs.{outputs_of, outputs_behind, plan_behind}
+use Rattle.fx_outputs.specs.Outputs.{outputs_of, outputs_behind}
 use Rattle.fx_outputs.proofs.Limits.{all_within}
 use Rattle.fx_outputs.proofs.Statements.{refused, read, passed, one_more_plan}
 use Rattle.fx_outputs.proofs.Taken.{few_rows, new_name}
@@ -61,9 +60,9 @@ loop-statement-preserved c =
           let more =
           read context earlier outputs (drop (suc i) all) s w.index-lexemes-0.result w.index-lexemes-3.result
           w.in_ok-output.output w.if-is_output.ensures first third one in
-          let plans : c.if-is_output.earlier ≡ earlier ++ plan_behind context earlier w.in_ok-output.output ∷ [] =
+          let plans =
           w.earlier-is ∙ w.in_ok-push.ensures.pushed
-          ∙ ap (λ (p : EarlierPlan). earlier ++ p ∷ []) w.in_ok-plan.ensures in
+          ∙ ap (λ p. earlier ++ p ∷ []) w.in_ok-plan.ensures in
           let files : c.if-is_output.outputs ≡ outputs ++ w.in_ok-output.output ∷ [] =
           w.outputs-is ∙ w.in_ok-push-2.ensures.ok in
           record {
@@ -75,15 +74,13 @@ loop-statement-preserved c =
       | else-is_output w ↦
           record {
             meaning = rw (add-one, w.earlier-is, w.outputs-is)
-                (so_far ∙ passed context earlier outputs (drop (suc i) all) s w.if-is_output.ensures);
+                (cc (passed context earlier outputs (drop (suc i) all) s w.if-is_output.ensures));
             plans = rw (w.earlier-is, w.outputs-is) c.loop-statement.invariant.plans;
           }
     ]
 
 pub returns-clause-within_limits : goal.returns-clause-within_limits
 returns-clause-within_limits c =
-    let context = c.args.context.now in
-    let none_left : drop c.loop-statement.statement-index c.args.statements.now ≡ [] =
-    drop_all c.loop-statement.statement-index c.args.statements.now c.loop-statement-test.false in
-    let whole = rw none_left at c.loop-statement.invariant.meaning in
-    all_within context c.args.earlier.now c.args.statements.now c.loop-statement.outputs whole
+    all_within c.args.context.now c.args.earlier.now c.args.statements.now c.loop-statement.outputs
+    (rw (drop_all c.loop-statement.statement-index c.args.statements.now c.loop-statement-test.false) at
+    c.loop-statement.invariant.meaning)

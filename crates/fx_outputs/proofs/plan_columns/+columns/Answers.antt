@@ -1,4 +1,5 @@
-use Rattle.std.proofs.Common.{◌≡◌, ◌≤◌, ◌<◌, ◌++◌, [], ℕ, List, length, take, get_or, Result, Ok, Err, OnOk, ap, sym, ◌∙◌}
+use Rattle.std.proofs.Common.{◌≡◌, ◌≤◌, ◌<◌, ◌++◌, [], ℕ, List, length, take, get_or, Result, Ok, Err, OnOk, ap}
+use Rattle.std.proofs.Common.{◌∙◌}
 use Rattle.std.proofs.Common.{append_assoc, append-nil, arith}
 use Rattle.std.specs.Prelude.{slice_index_or}
 use Rattle.fx_outputs.specs.declared.earlier.EarlierPlan.{EarlierPlan}
@@ -17,16 +18,13 @@ none_there : (plans : List EarlierPlan) (before number : ℕ) (rep : Rep) (names
     → before ≤ length plans → before ≤ number
     → names ≡ names ++ rep_columns (file_columns (take before plans)) rep
 none_there plans before number rep names is within high =
-    sym (ap (λ (r : Rep). names ++ rep_columns (file_columns (take before plans)) r) is
-    ∙ ap (λ (l : List (List ℕ)). names ++ l) (built-past plan_columns plans before number [] within high)
-    ∙ append-nil names)
+    cc (built-past plan_columns plans before number [] within high, append-nil names)
 
 there : (plans : List EarlierPlan) (before number : ℕ) (rep : Rep) → rep ≡ Plan number → before ≤ length plans
     → number < before
     → slice_index_or (file_columns plans) number [] ≡ rep_columns (file_columns (take before plans)) rep
 there plans before number rep is within low =
-    sym (ap (rep_columns (file_columns (take before plans))) is
-    ∙ built-take plan_columns plans before number [] within low)
+    cc (built-take plan_columns plans before number [] within low)
 
 -- the columns of a plan's file are its own, and those of what it names
 whole : (plans : List EarlierPlan) (number : ℕ) (plan : EarlierPlan) (names one two three own : List (List ℕ))
@@ -35,23 +33,17 @@ whole : (plans : List EarlierPlan) (number : ℕ) (plan : EarlierPlan) (names on
     → three ≡ two ++ rep_columns (file_columns (take number plans)) plan.designrep
     → three ≡ names ++ slice_index_or (file_columns plans) number []
 whole plans number plan names one two three own low at is first second third =
-    let point : List (List ℕ) = rep_columns (file_columns (take number plans)) plan.pointrep in
-    let design : List (List ℕ) = rep_columns (file_columns (take number plans)) plan.designrep in
+    let point = rep_columns (file_columns (take number plans)) plan.pointrep in
+    let design = rep_columns (file_columns (take number plans)) plan.designrep in
     let here : slice_index_or (file_columns plans) number [] ≡ plan.own ++ (point ++ design) =
-    built-at plan_columns plans number [] plan low
-    ∙ ap (plan_columns (file_columns (take number plans))) (sym at) in
-    third
-    ∙ ap (λ (l : List (List ℕ)). l ++ design)
-    (second ∙ ap (λ (l : List (List ℕ)). l ++ point) (first ∙ ap (λ (l : List (List ℕ)). names ++ l) is))
-    ∙ append_assoc (names ++ plan.own) point design
-    ∙ append_assoc names plan.own (point ++ design)
-    ∙ ap (λ (l : List (List ℕ)). names ++ l) (sym here)
+    cc (built-at plan_columns plans number [] plan low) in
+    cc (append_assoc (names ++ plan.own) point design, append_assoc names plan.own (point ++ design))
 
 pub push_plan-returns : goal.push_plan-returns
 push_plan-returns t c =
-    let plan = c.index-plans-number.result in
     weaker c.push_rep-2.result _ _
-    (whole c.args.plans.now c.args.number plan c.args.names.now c.push_copies.new.names c.push_rep.new.names
+    (whole c.args.plans.now c.args.number c.index-plans-number.result c.args.names.now c.push_copies.new.names
+    c.push_rep.new.names
     c.push_rep-2.new.names c.as_slice.result.now c.requires c.index-plans-number.is c.as_slice.ensures
     c.in_ok-push_copies.ensures c.in_ok-push_rep.ensures)
     c.push_rep-2.ensures
@@ -64,7 +56,7 @@ push_rep-returns-then-number-before t c =
 pub push_rep-returns-else-number-before : goal.push_rep-returns-else-number-before
 push_rep-returns-else-number-before t c =
     weaker c.push_plan.result _ _
-    (λ e. e ∙ ap (λ (l : List (List ℕ)). c.args.names.now ++ l)
+    (λ e. e ∙ ap (λ l. c.args.names.now ++ l)
     (there c.args.plans.now c.args.before c.in-Plan.number c.args.rep c.in-Plan.is c.requires
     (let low = c.if-number-before.false in omega arith)))
     c.push_plan.ensures

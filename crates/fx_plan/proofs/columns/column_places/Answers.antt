@@ -1,5 +1,5 @@
-use Rattle.std.proofs.Common.{◌≡◌, ◌++◌, ◌∷◌, [], ◌∙◌, ℕ, List, map, take}
-use Rattle.std.proofs.Common.{get_or, ap, arith, rules}
+use Rattle.std.proofs.Common.{◌≡◌, ◌++◌, ◌∷◌, [], ◌∙◌, map, take}
+use Rattle.std.proofs.Common.{get_or, arith, rules}
 use Rattle.fx_outputs.specs.declared.derived.Derived.{Derived}
 use Rattle.fx_plan.proofs.Lists.{mapped_more, behind_more}
 use Rattle.fx_plan.proofs.columns.column_places.Goals as goal
@@ -13,11 +13,14 @@ loop-place-preserved c =
 
 pub loop-factor-preserved : goal.loop-factor-preserved
 loop-factor-preserved c =
-    let d : Derived = c.factor-item.result in
-    let front : List (List ℕ) = map (λ p. p ∷ []) c.args.free.now in
-    let done : List (List ℕ) =
-    front ++ map (λ (x : Derived). x.places) (take c.loop-factor.factor-index c.args.derived.now) in
+    let d = c.factor-item.result in
+    let front = map (λ p. p ∷ []) c.args.free.now in
+    let done =
+    front ++ map (λ x. x.places) (take c.loop-factor.factor-index c.args.derived.now) in
     let pushed : c.push-in-loop-factor.new.self ≡ c.loop-factor.columns ++ d.places ∷ [] = search rules in
-    pushed ∙ ap (λ (l : List (List ℕ)). l ++ d.places ∷ []) c.loop-factor.invariant
-    ∙ ap (λ (x : Derived). done ++ x.places ∷ []) c.factor-item.is ∙ behind_more front (λ (x : Derived). x.places)
-    c.args.derived.now c.loop-factor.factor-index d (omega arith)
+    cc (
+      c.loop-factor.invariant,
+      c.factor-item.is,
+      behind_more front (λ (x : Derived). x.places)
+          c.args.derived.now c.loop-factor.factor-index d (omega arith),
+    )

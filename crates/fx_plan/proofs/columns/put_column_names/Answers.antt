@@ -13,41 +13,44 @@ in_factors s free all e h = rw e h
 
 pub overflow_sub-from : goal.overflow_sub-from
 overflow_sub-from c =
-    let at = in_factors (length c.args.factors.now) c.args.free.now _ c.requires
+    let at = in_factors _ c.args.free.now _ c.requires
     (free_in (length c.args.factors.now) c.args.derived.now) c.loop-place.place-index 0 c.loop-place-test.true in
-    (let low = at.0 in omega (arith, c.from.ensures))
+    (let low = at.0 in omega arith)
 
 pub get-name-requires : goal.get-name-requires
 get-name-requires c =
-    let at = in_factors (length c.args.factors.now) c.args.free.now _ c.requires
+    let at = in_factors _ c.args.free.now _ c.requires
     (free_in (length c.args.factors.now) c.args.derived.now) c.loop-place.place-index 0 c.loop-place-test.true in
-    (let low = at.0 in let high = at.1 in omega (arith, c.from.ensures))
+    (let low = at.0 in let high = at.1 in omega arith)
 
 pub loop-place-preserved : goal.loop-place-preserved
 loop-place-preserved c =
-    let p : ℕ = get_or c.args.free.now c.loop-place.place-index 0 in
-    let at = in_factors (length c.args.factors.now) c.args.free.now _ c.requires
+    let p = get_or c.args.free.now c.loop-place.place-index 0 in
+    let at = in_factors _ c.args.free.now _ c.requires
     (free_in (length c.args.factors.now) c.args.derived.now) c.loop-place.place-index 0 c.loop-place-test.true in
-    let raw : c.get-name.result.now ≡ get_or c.args.factors.now (p - 1) c.get-name.result.now =
+    let raw =
     rw c.from.ensures at c.get-name.ensures in
-    let name : c.get-name.result.now ≡ get_or c.args.factors.now (p - 1) [] =
+    let name =
     raw ∙ get_or_default c.args.factors.now (p - 1) c.get-name.result.now []
     (let a = at.0 in let b = at.1 in omega arith) in
     let pushed : c.push.new.self ≡ c.loop-place.names ++ c.get-name.result.now ∷ [] = search rules in
-    pushed ∙ ap (λ (l : List ℕ). c.loop-place.names ++ l ∷ []) name
+    pushed ∙ ap (λ l. c.loop-place.names ++ l ∷ []) name
     ∙ rw c.loop-place.invariant
     (behind_more c.args.names.now (λ p. get_or c.args.factors.now (p - 1) []) c.args.free.now c.loop-place.place-index
     0 (omega arith))
 
 pub loop-factor-preserved : goal.loop-factor-preserved
 loop-factor-preserved c =
-    let d : Derived = c.factor-item.result in
-    let front : List (List ℕ) = map (λ p. get_or c.args.factors.now (p - 1) []) c.args.free.now in
-    let done : List (List ℕ) =
-    front ++ map (λ (x : Derived). x.name) (take c.loop-factor.factor-index c.args.derived.now) in
+    let d = c.factor-item.result in
+    let front = map (λ p. get_or c.args.factors.now (p - 1) []) c.args.free.now in
+    let done =
+    front ++ map (λ x. x.name) (take c.loop-factor.factor-index c.args.derived.now) in
     let pushed : c.push-in-loop-factor.new.self ≡ c.loop-factor.names ++ d.name ∷ [] = search rules in
-    pushed ∙ ap (λ (l : List (List ℕ)). l ++ d.name ∷ []) c.loop-factor.invariant ∙ append_assoc c.args.names.now done
-    (d.name ∷ [])
-    ∙ ap (λ (l : List (List ℕ)). c.args.names.now ++ l)
-    (ap (λ (x : Derived). done ++ x.name ∷ []) c.factor-item.is ∙ behind_more front (λ (x : Derived). x.name)
-    c.args.derived.now c.loop-factor.factor-index d (omega arith))
+    cc (
+      c.loop-factor.invariant,
+      append_assoc c.args.names.now done
+          (d.name ∷ []),
+      c.factor-item.is,
+      behind_more front (λ (x : Derived). x.name)
+          c.args.derived.now c.loop-factor.factor-index d (omega arith),
+    )

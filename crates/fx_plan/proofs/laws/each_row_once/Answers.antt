@@ -10,4 +10,4 @@ returns-clause-reordered c runs output seed inner outer test h =
 pub returns-clause-as_often : goal.returns-clause-as_often
 returns-clause-as_often c runs output seed inner outer k h low =
     plan_total (λ r. cond (eqb (run_of (length inner.rows) (length runs.rows) r) k) 1 0) runs output seed inner outer h
-    ∙ run_total (length runs.rows) (length inner.rows) (length outer.rows) k low
+    ∙ run_total _ (length inner.rows) (length outer.rows) k low

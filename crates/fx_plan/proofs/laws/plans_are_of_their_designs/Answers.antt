@@ -1,5 +1,4 @@
-use Rattle.std.proofs.Common.{◌∙◌, ◌≡◌, ℕ, ◌<◌, ◌*◌, cond, eqb, length, sym, subst}
-use Rattle.std.specs.List.{sum_by}
+use Rattle.std.proofs.Common.{◌∙◌, cond, eqb, length}
 use Rattle.fx_runs.specs.Runs.{design_of}
 use Rattle.fx_plan.specs.Products.{arrangement_of, run_of}
 use Rattle.fx_plan.proofs.Designs.{design-runs, row-count, run-count, values-reordered}
@@ -13,15 +12,15 @@ returns-clause-rows c names matrix output seed inner outer known whole =
 pub returns-clause-as_often : goal.returns-clause-as_often
 returns-clause-as_often c matrix output seed inner outer k known whole low =
     let runs = design_of matrix in
-    let each : ℕ = length inner.rows in
-    let all : ℕ = length outer.rows in
+    let each = length inner.rows in
+    let all = length outer.rows in
     let order = (arrangement_of runs output seed inner outer).order in
-    let own : k < length runs.rows = subst (λ (n : ℕ). k < n) (sym (run-count matrix)) low in
-    let often : sum_by (λ r. cond (eqb (run_of each (length runs.rows) r) k) 1 0) order ≡ each * all =
+    let own = rw (← (run-count matrix)) at low in
+    let often =
     plan_total (λ r. cond (eqb (run_of each (length runs.rows) r) k) 1 0) runs output seed inner outer
     (design-runs matrix known whole)
-    ∙ run_total (length runs.rows) each all k own in
-    subst (λ (n : ℕ). sum_by (λ r. cond (eqb (run_of each n r) k) 1 0) order ≡ each * all) (run-count matrix) often
+    ∙ run_total _ each all k own in
+    rw (← (run-count matrix)) often
 
 pub returns-clause-values : goal.returns-clause-values
 returns-clause-values c runs output seed inner outer = values-reordered runs output seed inner outer

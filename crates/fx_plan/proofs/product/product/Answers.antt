@@ -1,8 +1,6 @@
-use Rattle.std.proofs.Common.{◌≡◌, ◌<◌, ◌∷◌, [], ◌%◌, ◌/◌, ◌∙◌, ℕ, List, All, length, map, sym, ap, subst}
-use Rattle.std.specs.Prelude.{IfOk}
+use Rattle.std.proofs.Common.{◌≡◌, ◌<◌, ◌∷◌, [], ◌%◌, ◌/◌, ◌∙◌, ℕ, List, All, length, map, sym, subst}
 use Rattle.std.proofs.lemmas.List.{length-map}
-use Rattle.fx_derived.specs.Tables.{TableView}
-use Rattle.fx_plan.specs.Products.{picked, run_of}
+use Rattle.fx_plan.specs.Products.{run_of}
 use Rattle.fx_plan.proofs.Parts.{count, inside_low, long, outside_low, own_low, product_is}
 use Rattle.fx_plan.proofs.product.product.Goals as goal
 
@@ -24,8 +22,7 @@ picked-requires-2 c =
 
 pub of-requires : goal.of-requires
 of-requires c =
-    let is : c.in_ok-sources.sources.runs.items
-    ≡ map (run_of (length c.args.inner.rows) (length c.args.runs.rows)) c.args.order.items =
+    let is =
     rw (c.as_slice.ensures.value, c.len.ensures, c.len-2.ensures) at c.in_ok-sources.ensures.runs in
     subst (All (λ i. i < length c.args.runs.rows)) (sym is)
     (own_low c.args.runs c.args.inner c.args.outer c.args.order.items c.requires)
@@ -38,10 +35,17 @@ beside-requires c =
     rw (c.as_slice.ensures.value, c.len.ensures, c.len-2.ensures) at c.in_ok-sources.ensures.runs in
     let inner : c.as_slice-2.result.now ≡ map (λ r. r % length c.args.inner.rows) order =
     c.as_slice-2.ensures.value ∙ rw (c.as_slice.ensures.value, c.len.ensures) at c.in_ok-sources.ensures.inner in
-    count c.as_slice-2.result.now c.args.inner c.in_ok-inner.inner (sym c.in_ok-inner.ensures)
-    ∙ ap length inner ∙ length-map order (λ r. r % length c.args.inner.rows)
-    ∙ sym (count c.in_ok-sources.sources.runs.items c.args.runs c.in_ok-of.field-0 (sym c.in_ok-of.ensures)
-    ∙ ap length runs ∙ length-map order (run_of (length c.args.inner.rows) (length c.args.runs.rows)))
+    cc (
+      count c.as_slice-2.result.now c.args.inner c.in_ok-inner.inner (sym c.in_ok-inner.ensures),
+      inner,
+      length-map
+          order (λ r. r % length c.args.inner.rows),
+      count c.in_ok-sources.sources.runs.items c.args.runs
+          c.in_ok-of.field-0 (sym c.in_ok-of.ensures),
+      runs,
+      length-map order
+          (run_of (length c.args.inner.rows) (length c.args.runs.rows)),
+    )
 
 pub beside-requires-2 : goal.beside-requires-2
 beside-requires-2 c =
@@ -54,12 +58,21 @@ beside-requires-2 c =
     c.as_slice-3.ensures.value
     ∙ rw (c.as_slice.ensures.value, c.len.ensures, c.len-2.ensures) at c.in_ok-sources.ensures.outer in
     let own : length c.in_ok-of.field-0.rows ≡ length order =
-    count c.in_ok-sources.sources.runs.items c.args.runs c.in_ok-of.field-0 (sym c.in_ok-of.ensures)
-    ∙ ap length runs ∙ length-map order (run_of (length c.args.inner.rows) (length c.args.runs.rows)) in
-    count c.as_slice-3.result.now c.args.outer c.in_ok-outer.outer (sym c.in_ok-outer.ensures)
-    ∙ ap length outer ∙ length-map order (λ r. r / length c.args.inner.rows / length c.args.runs.rows)
-    ∙ sym (ap (λ (t : TableView). length t.rows) c.in_ok-beside.ensures
-    ∙ long (length c.in_ok-of.field-0.rows) (c.in_ok-of.field-0 ∷ c.in_ok-inner.inner ∷ []) ∙ own)
+    cc (
+      count c.in_ok-sources.sources.runs.items c.args.runs c.in_ok-of.field-0 (sym c.in_ok-of.ensures),
+      length-map
+          order (run_of (length c.args.inner.rows) (length c.args.runs.rows)),
+    ) in
+    cc (
+      count c.as_slice-3.result.now c.args.outer c.in_ok-outer.outer (sym c.in_ok-outer.ensures),
+      outer,
+      length-map
+          order (λ r. r / length c.args.inner.rows / length c.args.runs.rows),
+      c.in_ok-beside.ensures,
+      long
+          (length c.in_ok-of.field-0.rows) (c.in_ok-of.field-0 ∷ c.in_ok-inner.inner ∷ []),
+      own,
+    )
 
 pub returns : goal.returns
 returns c =
@@ -73,11 +86,9 @@ returns c =
     ≡ map (λ r. r / length c.args.inner.rows / length c.args.runs.rows) order =
     c.as_slice-3.ensures.value
     ∙ rw (c.as_slice.ensures.value, c.len.ensures, c.len-2.ensures) at c.in_ok-sources.ensures.outer in
-    subst (λ (t : TableView). IfOk c.beside-2.result (λ plan. plan ≡ t))
-    (product_is c.args.runs c.args.inner c.args.outer order c.requires c.in_ok-of.field-0 c.in_ok-inner.inner
+    rw (← (product_is c.args.runs c.args.inner c.args.outer order c.requires c.in_ok-of.field-0 c.in_ok-inner.inner
     c.in_ok-outer.outer c.in_ok-beside.field-0
-    (c.in_ok-of.ensures ∙ ap (λ (l : List ℕ). picked l c.args.runs) runs)
-    (c.in_ok-inner.ensures ∙ ap (λ (l : List ℕ). picked l c.args.inner) inner)
-    (c.in_ok-outer.ensures ∙ ap (λ (l : List ℕ). picked l c.args.outer) outer)
-    c.in_ok-beside.ensures)
-    c.beside-2.ensures
+    (cc (c.in_ok-of.ensures, runs))
+    (cc (c.in_ok-inner.ensures, inner))
+    (cc (c.in_ok-outer.ensures, outer))
+    c.in_ok-beside.ensures)) c.beside-2.ensures

@@ -1,5 +1,5 @@
-use Rattle.std.proofs.Common.{◌==◌, ◌++◌, ◌∷◌, [], ◌∙◌, ℕ, List, map}
-use Rattle.std.proofs.Common.{ap, ap₂, arith, if◌then◌else◌, take_all}
+use Rattle.std.proofs.Common.{◌==◌, ◌∷◌, [], ℕ, List}
+use Rattle.std.proofs.Common.{arith, if◌then◌else◌, take_all}
 use Rattle.fx_vectors.proofs.Limits.{order-bounds}
 use Rattle.fx_runs.specs.RunBlocks.{block_of, run_at}
 use Rattle.fx_derived.specs.Codes.{derived_level}
@@ -10,18 +10,18 @@ use Rattle.fx_plan.proofs.runs.run_codes.Goals as goal
 pub put_level-requires-clause-places : goal.put_level-requires-clause-places
 put_level-requires-clause-places c =
     let r = c.args.layout.now.runs.now in
-    let nine = (order-bounds r.shape.q c.shape-known.ensures.valid.shaped.order).1 in
     let at = column_at r.shape.q r.shape.s c.args.layout.now.output.now.derived c.args.columns.now c.loop-i.i
-    c.index-columns-i.result nine c.args.layout.now.planned.derived c.requires.columns (omega arith)
+    c.index-columns-i.result (order-bounds r.shape.q c.shape-known.ensures.valid.shaped.order).1
+    c.args.layout.now.planned.derived c.requires.columns (omega arith)
     c.index-columns-i.is in
     rw c.as_slice.ensures at.places
 
 pub put_level-requires-clause-levels : goal.put_level-requires-clause-levels
 put_level-requires-clause-levels c =
     let r = c.args.layout.now.runs.now in
-    let nine = (order-bounds r.shape.q c.shape-known.ensures.valid.shaped.order).1 in
     let at = column_at r.shape.q r.shape.s c.args.layout.now.output.now.derived c.args.columns.now c.loop-i.i
-    c.index-columns-i.result nine c.args.layout.now.planned.derived c.requires.columns (omega arith)
+    c.index-columns-i.result (order-bounds r.shape.q c.shape-known.ensures.valid.shaped.order).1
+    c.args.layout.now.planned.derived c.requires.columns (omega arith)
     c.index-columns-i.is in
     rw c.as_slice.ensures at.levels
 
@@ -29,16 +29,19 @@ pub loop-i-preserved : goal.loop-i-preserved
 loop-i-preserved c =
     let r = c.args.layout.now.runs.now in
     let code : List ℕ → ℕ = λ places. derived_level r.shape.q places (run_at r c.args.k) in
-    let block : List ℕ = if r.shape.t == 0 then [] else block_of r c.args.k ∷ [] in
-    c.in_ok-put_level.ensures
-    ∙ ap₂ (λ (l : List ℕ) (p : List ℕ). l ++ code p ∷ []) c.loop-i.invariant
-    (c.as_slice.ensures ∙ c.index-columns-i.is)
-    ∙ behind_more block code c.args.columns.now c.loop-i.i c.index-columns-i.result (omega arith)
+    cc (
+      c.in_ok-put_level.ensures,
+      c.loop-i.invariant,
+      c.as_slice.ensures,
+      c.index-columns-i.is,
+      behind_more
+          (if r.shape.t == 0 then [] else block_of r c.args.k ∷ []) code c.args.columns.now c.loop-i.i
+          c.index-columns-i.result (omega arith),
+    )
 
 pub returns : goal.returns
 returns c =
     let r = c.args.layout.now.runs.now in
     let code : List ℕ → ℕ = λ places. derived_level r.shape.q places (run_at r c.args.k) in
     let block : List ℕ = if r.shape.t == 0 then [] else block_of r c.args.k ∷ [] in
-    c.loop-i.invariant
-    ∙ ap (λ (l : List (List ℕ)). block ++ map code l) (take_all c.loop-i.i c.args.columns.now (omega arith))
+    cc (c.loop-i.invariant, take_all c.loop-i.i c.args.columns.now (omega arith))

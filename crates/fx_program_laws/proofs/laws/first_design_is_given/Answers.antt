@@ -1,8 +1,6 @@
-use Rattle.std.proofs.Common.{ℕ, ◌≡◌, List, ap}
+use Rattle.std.proofs.Common.{ℕ, ◌≡◌, List}
 use Rattle.fx_statements.specs.Questions.{Conclusion, outcome_of}
 use Rattle.fx_statements.specs.Steps.{Meaning}
-use Rattle.fx_answer.specs.Books.{books_of}
-use Rattle.fx_program.specs.Output.{outcome_given}
 use Rattle.fx_program.specs.Plans.{AskedView}
 use Rattle.fx_program_laws.specs.Endings.{EndsWith}
 use Rattle.fx_program_laws.proofs.First.{first_given, first_least_given, none_given}
@@ -11,7 +9,7 @@ use Rattle.fx_program_laws.proofs.laws.first_design_is_given.Goals as goal
 ends_with : (seed number : ℕ) (earlier : List AskedView) (step : Meaning) (outcome : Conclusion)
     → outcome_of step ≡ outcome → EndsWith seed number earlier step outcome
 ends_with seed number earlier step outcome is =
-    record { outcome_is = is; output = ap (outcome_given seed number earlier step (books_of step)) is }
+    record { outcome_is = is; output = cc }
 
 pub returns-clause-design : goal.returns-clause-design
 returns-clause-design c seed number earlier step p rows some few last plain first =

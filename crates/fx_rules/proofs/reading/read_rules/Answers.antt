@@ -1,9 +1,6 @@
-use Rattle.std.proofs.Common.{◌≤◌, length, ◌∙◌, ap, sym, subst}
-use Rattle.std.specs.Prelude.{Ok, Result, IfErr, IfOk}
+use Rattle.std.proofs.Common.{◌∙◌, ap}
+use Rattle.std.specs.Prelude.{Ok}
 use Rattle.std.proofs.lemmas.Result.{err_from_is_err_and}
-use Rattle.fx_vectors.specs.Matrix.{MatrixView}
-use Rattle.fx_rules.specs.declared.problem.RulesFault.{RulesFault}
-use Rattle.fx_rules.specs.Laws.{IsOfRules}
 use Rattle.fx_rules.specs.Reading.{matrix_in, matrix_of_rules}
 use Rattle.fx_rules.proofs.Faults.{fault_inside}
 use Rattle.fx_rules.proofs.Kept.{read_is_given}
@@ -24,13 +21,11 @@ unfolding matrix_of_rules
 returns-clause-given c =
     let is = ap Ok c.into_matrix.ensures ∙ ap matrix_in c.in_ok-building.ensures in
     let h = read_is_given c.args.shape c.requires c.args.factors.now c.args.text.now in
-    subst (λ (x : Result MatrixView RulesFault). IfOk x (IsOfRules c.args.shape)) (sym is) h
+    rw (← is) at h
 
 pub returns-in_err-building-clause-inside : goal.returns-in_err-building-clause-inside
 unfolding matrix_of_rules
 returns-in_err-building-clause-inside c =
     let p = err_from_is_err_and c.from_residual.result c.from_residual.ensures.1 in
-    let is = ap matrix_in c.in_err-building.ensures in
-    let h = fault_inside c.args.shape c.args.factors.now c.args.text.now in
     rw (p.1, p.2)
-    (subst (λ (x : Result MatrixView RulesFault). IfErr x (λ f. f.at ≤ length c.args.text.now)) (sym is) h)
+    (rw (← (ap matrix_in c.in_err-building.ensures)) at (fault_inside c.args.shape c.args.factors.now c.args.text.now))

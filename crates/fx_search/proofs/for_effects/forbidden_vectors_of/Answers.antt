@@ -1,16 +1,13 @@
-use Rattle.std.proofs.Common.{◌∙◌, sym, subst, ap, arith}
-use Rattle.fx_designs.specs.Problems.{Requirement}
+use Rattle.std.proofs.Common.{◌∙◌, sym, ap, arith}
 use Rattle.fx_vectors.specs.Question.{requirement_of}
 use Rattle.fx_vectors.proofs.Limits.{words_fit}
-use Rattle.fx_demands.specs.EffectVectors.{AreAllForbidden}
 use Rattle.fx_search.proofs.for_effects.forbidden_vectors_of.Goals as goal
 
 pub returns-in_ok-words-in-Effects : goal.returns-in_ok-words-in-Effects
 returns-in_ok-words-in-Effects c =
     record {
       all = λ estimate besides asked d q s.
-          subst (λ (r : Requirement). AreAllForbidden d r c.in_ok-words-in-Effects.words)
-          (sym (ap requirement_of c.in-Effects.is) ∙ asked)
+          rw (sym (ap requirement_of c.in-Effects.is) ∙ asked) at
           (c.in_ok-words-in-Effects.ensures d (q ∙ sym c.field.ensures) s);
     }
 

@@ -1,5 +1,5 @@
-use Rattle.std.proofs.Common.{true, false, ◌≡◌, ◌∙◌, ◌+◌, ◌-◌, ◌≤◌, ◌<◌, ◌++◌, [], ◌∷◌, ℕ, List, Option, length}
-use Rattle.std.proofs.Common.{length-append, append-nil, refl, sym, ap, arith}
+use Rattle.std.proofs.Common.{true, false, ◌≡◌, ◌+◌, ◌-◌, ◌≤◌, ◌++◌, [], ◌∷◌, ℕ, List, Option, length}
+use Rattle.std.proofs.Common.{length-append, append-nil, refl, ap, arith}
 use Rattle.fx_designs.specs.Problems.{Problem}
 use Rattle.fx_designs.specs.Nodes.{Mark}
 use Rattle.fx_tree.specs.Ranked.{better}
@@ -7,7 +7,7 @@ use Rattle.fx_tree.specs.Search.{ranked}
 use Rattle.fx_vectors.specs.Matrix.{MatrixView}
 use Rattle.fx_search.specs.LotWalks.{AreAddable, IsAdded}
 use Rattle.fx_search.specs.Walks.{standing_with_best}
-use Rattle.fx_search.specs.Standing.{Standing, best_rows}
+use Rattle.fx_search.specs.Standing.{best_rows}
 use Rattle.fx_search.specs.declared.job.JobEnd.{JobEnd}
 use Rattle.fx_search.specs.declared.job.JobEnd.TheVariants.{Closed, Found, Spent, Cut}
 use Rattle.fx_search.proofs.lot_walk.add.Goals as goal
@@ -19,20 +19,20 @@ other-spent : (p : Problem) (limit : ℕ) (lot : List ℕ) (old : List Mark) (ea
     → IsAdded p limit old earlier (end ∷ []) old earlier false
 other-spent p limit lot old earlier (Closed b n ms) other fits h = absurd (other b n ms refl)
 other-spent p limit lot old earlier (Found matrix n ms) other fits h = absurd h
-other-spent p limit lot old earlier (Spent n) other fits h = let past : limit - length old < n = h in omega arith
+other-spent p limit lot old earlier (Spent n) other fits h = let past = h in omega arith
 other-spent p limit lot old earlier Cut other fits h = absurd h
 
 -- the marks of one end fit and are added
 module _ (p : Problem) (limit : ℕ) (lot : List ℕ) (old new ms : List Mark) (n : ℕ) (fits : length new ≤ limit)
     (more : new ≡ old ++ ms) (earlier best : Option (List ℕ)) where
   long : length new ≡ length old + length ms
-  long = ap length more ∙ length-append old ms
+  long = cc (length-append old ms)
 
   closed-added : (b : Option MatrixView) → AreAddable p lot (limit - length old) (Closed b n ms ∷ [])
       → best ≡ better (ranked p) earlier (best_rows b)
       → IsAdded p limit old earlier (Closed b n ms ∷ []) new best true
   closed-added b h is =
-      (fits, omega (arith, long, h.0), more ∙ ap (λ l. old ++ l) (sym (append-nil ms)), is)
+      (fits, omega (arith, long), cc (append-nil ms), is)
 
 pub returns-then-not-branch : goal.returns-then-not-branch
 returns-then-not-branch c = record {
@@ -51,12 +51,12 @@ join_best-requires c =
 
 pub returns : goal.returns
 returns c =
-    let s : Standing = standing_with_best c.args.incumbent.now in
+    let s = standing_with_best c.args.incumbent.now in
     let is = c.join_best.ensures in
-    let best = ap (λ (z : Standing). z.best) is in
+    let best = ap (λ z. z.best) is in
     let taken = rw c.if-not-branch.false at c.in_ok-take.ensures.taken in
     record {
-      standing = is ∙ ap (λ (b : Option (List ℕ)). record s { best = b }) (sym best);
+      standing = cc;
       added = rw c.in-Closed.is
           (closed-added s.problem c.args.limit s.prefix c.args.marks.now c.take.new.marks c.in-Closed.own
           c.in-Closed.nodes taken.1 taken.0 s.best (standing_with_best c.join_best.new.incumbent).best c.in-Closed.best

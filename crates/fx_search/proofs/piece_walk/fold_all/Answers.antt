@@ -28,9 +28,9 @@ all-folded question limit tail marks now ends h =
 
 pub loop-piece-init : goal.loop-piece-init
 loop-piece-init c =
-    let ps : into_iter_items c.into_iter-piece-iterator.result ≡ c.args.pieces =
+    let ps =
     c.into_iter-piece-iterator.ensures.into_iter_gives.0 ∙ c.into_vec-piece-items.ensures in
-    let es : into_iter_items c.into_iter-rest.result ≡ c.args.ends =
+    let es =
     c.into_iter-rest.ensures.rest ∙ c.into_vec.ensures in
     record {
       fits = c.requires.fits;
@@ -39,77 +39,59 @@ loop-piece-init c =
 
 pub returns-in_default-clause-folded : goal.returns-in_default-clause-folded
 returns-in_default-clause-folded c question tail marks h =
-    let now : List Mark = c.loop-piece.marks in
     let i = c.loop-piece.invariant in
-    let steps : into_iter_items c.loop-piece.piece-iterator ≡ c.in-Some.piece ∷ into_iter_items c.next.new.self =
-    c.in-Some.ensures.steps.0 in
     let count : into_iter_len c.loop-piece.rest ≡ length (into_iter_items c.loop-piece.rest) = search rules in
-    let none : into_iter_items c.loop-piece.rest ≡ [] =
-    nil_from_length (into_iter_items c.loop-piece.rest) (sym count ∙ c.in_default.ensures.cases.0) in
-    let here = rw (steps, none) at (i.folding question tail marks h).0 in
-    absurd (none-missing question c.args.limit tail marks c.in-Some.piece (into_iter_items c.next.new.self) now
-    here)
+    let none =
+    nil_from_length _ (sym count ∙ c.in_default.ensures.cases.0) in
+    absurd (none-missing question c.args.limit tail marks c.in-Some.piece _ c.loop-piece.marks
+    (rw (c.in-Some.ensures.steps.0, none) at (i.folding question tail marks h).0))
 
 pub loop-piece-preserved : goal.loop-piece-preserved
 loop-piece-preserved c =
-    let now : List Mark = c.loop-piece.marks in
     let i = c.loop-piece.invariant in
-    let steps : into_iter_items c.loop-piece.piece-iterator ≡ c.in-Some.piece ∷ into_iter_items c.next.new.self =
+    let steps =
     c.in-Some.ensures.steps.0 in
-    let more : into_iter_items c.loop-piece.rest ≡ c.in-Some-next.end ∷ into_iter_items c.next-in-loop-piece.new.self =
+    let more =
     c.in-Some-next.ensures.cases.0 in
     let one = rw c.in-AllClosed.is at c.in_ok-fold_one.ensures.folded in
     record {
       fits = c.fold_one.ensures.fits;
       folding = λ question tail marks h.
           (let was = i.folding question tail marks h in
-          let here : IsFolding question c.args.limit tail marks (c.in-Some.piece ∷ into_iter_items c.next.new.self)
-          (c.in-Some-next.end ∷ into_iter_items c.next-in-loop-piece.new.self) now =
-          rw (steps, more) at was.0 in
           let both =
-          one question tail marks (into_iter_items c.next.new.self) (into_iter_items c.next-in-loop-piece.new.self) here
+          one question tail marks (into_iter_items c.next.new.self) (into_iter_items c.next-in-loop-piece.new.self)
+          (rw (steps, more) at was.0)
           in
-          (both.0, omega (arith, was.1, both.1, ap length steps)));
+          (both.0, omega (arith, ap length steps)));
     }
 
 pub returns-in-Design-clause-folded : goal.returns-in-Design-clause-folded
 returns-in-Design-clause-folded c question tail marks h =
-    let now : List Mark = c.loop-piece.marks in
     let i = c.loop-piece.invariant in
-    let steps : into_iter_items c.loop-piece.piece-iterator ≡ c.in-Some.piece ∷ into_iter_items c.next.new.self =
-    c.in-Some.ensures.steps.0 in
-    let more : into_iter_items c.loop-piece.rest ≡ c.in-Some-next.end ∷ into_iter_items c.next-in-loop-piece.new.self =
+    let more =
     c.in-Some-next.ensures.cases.0 in
     let one = rw c.in-Design.is at c.in_ok-fold_one.ensures.folded in
-    let here : IsFolding question c.args.limit tail marks (c.in-Some.piece ∷ into_iter_items c.next.new.self)
-    (c.in-Some-next.end ∷ into_iter_items c.next-in-loop-piece.new.self) now =
-    rw (steps, more) at (i.folding question tail marks h).0 in
-    one question tail marks (into_iter_items c.next.new.self) (into_iter_items c.next-in-loop-piece.new.self) here
+    one question tail marks (into_iter_items c.next.new.self) (into_iter_items c.next-in-loop-piece.new.self)
+    (rw (c.in-Some.ensures.steps.0, more) at (i.folding question tail marks h).0)
 
 pub returns-in-TooMany-clause-folded : goal.returns-in-TooMany-clause-folded
 returns-in-TooMany-clause-folded c question tail marks h =
-    let now : List Mark = c.loop-piece.marks in
     let i = c.loop-piece.invariant in
-    let steps : into_iter_items c.loop-piece.piece-iterator ≡ c.in-Some.piece ∷ into_iter_items c.next.new.self =
-    c.in-Some.ensures.steps.0 in
-    let more : into_iter_items c.loop-piece.rest ≡ c.in-Some-next.end ∷ into_iter_items c.next-in-loop-piece.new.self =
+    let more =
     c.in-Some-next.ensures.cases.0 in
     let one = rw c.in-TooMany.is at c.in_ok-fold_one.ensures.folded in
-    let here : IsFolding question c.args.limit tail marks (c.in-Some.piece ∷ into_iter_items c.next.new.self)
-    (c.in-Some-next.end ∷ into_iter_items c.next-in-loop-piece.new.self) now =
-    rw (steps, more) at (i.folding question tail marks h).0 in
-    one question tail marks (into_iter_items c.next.new.self) (into_iter_items c.next-in-loop-piece.new.self) here
+    one question tail marks (into_iter_items c.next.new.self) (into_iter_items c.next-in-loop-piece.new.self)
+    (rw (c.in-Some.ensures.steps.0, more) at (i.folding question tail marks h).0)
 
 pub returns-clause-folded : goal.returns-clause-folded
 returns-clause-folded c question tail marks h =
-    let now : List Mark = c.loop-piece.marks in
     let i = c.loop-piece.invariant in
     let count : into_iter_len c.loop-piece.piece-iterator ≡ length (into_iter_items c.loop-piece.piece-iterator) =
     search rules in
-    let none : into_iter_items c.loop-piece.piece-iterator ≡ [] =
-    nil_from_length (into_iter_items c.loop-piece.piece-iterator) (sym count ∙ c.in-None.ensures.steps.0) in
+    let none =
+    nil_from_length _ (sym count ∙ c.in-None.ensures.steps.0) in
     let here = rw none at (i.folding question tail marks h).0 in (
-      all-folded question c.args.limit tail marks now (into_iter_items c.loop-piece.rest) here,
+      all-folded question c.args.limit tail marks c.loop-piece.marks _ here,
       omega
           (arith, (i.folding question tail marks h).1, ap length none),
     )

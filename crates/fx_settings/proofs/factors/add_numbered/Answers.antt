@@ -13,13 +13,11 @@ returns-then-is_some-clause-known c =
     let old = c.args.names.now in
     let s = stem c.args.first.now.text in
     let name : c.as_slice.result.now ≡ s ++ decimal (c.args.from + c.loop-i.i) =
-    c.as_slice.ensures ∙ c.in_ok-name.ensures ∙ ap (λ l. l ++ decimal (c.args.from + c.loop-i.i))
-    (c.stem.ensures ∙ ap stem c.text.ensures) in
+    cc (c.as_slice.ensures, c.in_ok-name.ensures, c.stem.ensures, c.text.ensures) in
     let front : take c.len-known.result c.as_slice-in-loop-i.result.now ≡ old =
     ap₂ take c.loop-i.invariant.0 (c.as_slice-in-loop-i.ensures ∙ c.loop-i.invariant.1) ∙ behind old _ in
     let found : is_some (place_of (s ++ decimal (c.args.from + c.loop-i.i)) old) ≡ true =
-    ap₂ (λ n l. is_some (place_of n l)) (sym name) (sym front) ∙ ap is_some (sym c.place_of.ensures.place) ∙ sym
-    c.if-is_some.ensures in
+    cc (c.place_of.ensures.place, c.if-is_some.ensures) in
     ap (known_at c.args.first.now)
     (c.loop-i.invariant.2 ∙ known_here s c.args.from c.args.count c.loop-i.i c.loop-i-test.true old found)
     ∙ ap Err (sym c.refused.ensures)
@@ -29,14 +27,13 @@ loop-i-preserved c =
     let old = c.args.names.now in
     let s = stem c.args.first.now.text in
     let text : c.in_ok-name.name ≡ s ++ decimal (c.args.from + c.loop-i.i) =
-    c.in_ok-name.ensures ∙ ap (λ l. l ++ decimal (c.args.from + c.loop-i.i)) (c.stem.ensures ∙ ap stem c.text.ensures)
+    cc (c.in_ok-name.ensures, c.stem.ensures, c.text.ensures)
     in
-    let name : c.as_slice.result.now ≡ s ++ decimal (c.args.from + c.loop-i.i) = c.as_slice.ensures ∙ text in
+    let name = c.as_slice.ensures ∙ text in
     let front : take c.len-known.result c.as_slice-in-loop-i.result.now ≡ old =
     ap₂ take c.loop-i.invariant.0 (c.as_slice-in-loop-i.ensures ∙ c.loop-i.invariant.1) ∙ behind old _ in
     let new : is_some (place_of (s ++ decimal (c.args.from + c.loop-i.i)) old) ≡ false =
-    ap₂ (λ n l. is_some (place_of n l)) (sym name) (sym front) ∙ ap is_some (sym c.place_of.ensures.place) ∙ sym
-    c.if-is_some.ensures in (
+    cc (c.place_of.ensures.place, c.if-is_some.ensures) in (
       c.loop-i.invariant.0,
       c.in_ok-push.ensures.ok
           ∙ ap₂ (λ l n. l ++ n ∷ []) c.loop-i.invariant.1 text
@@ -47,8 +44,11 @@ loop-i-preserved c =
 
 pub returns-clause-added : goal.returns-clause-added
 returns-clause-added c =
-    c.loop-i.invariant.1 ∙ ap (λ l. c.args.names.now ++ l)
-    (all_taken (stem c.args.first.now.text) c.args.from c.args.count c.loop-i.i c.loop-i-test.false)
+    cc (
+      c.loop-i.invariant.1,
+      all_taken (stem c.args.first.now.text) c.args.from c.args.count c.loop-i.i
+          c.loop-i-test.false,
+    )
 
 pub returns-clause-new : goal.returns-clause-new
 returns-clause-new c =

@@ -1,4 +1,4 @@
-use Rattle.std.proofs.Common.{◌≤◌, length, ◌∙◌, arith}
+use Rattle.std.proofs.Common.{◌∙◌, arith}
 use Rattle.std.proofs.lemmas.List.{at_drop_all}
 use Rattle.fx_settings.specs.Rules.{first_refusal}
 use Rattle.fx_settings.proofs.Rules.{all_kept}
@@ -6,6 +6,5 @@ use Rattle.fx_settings.proofs.rule.first_refusal.Goals as goal
 
 pub returns-clause-kept : goal.returns-clause-kept
 returns-clause-kept c =
-    let ended : length c.args.rules.now ≤ c.loop-rule.rule-index = omega (arith, c.loop-rule.auto.rule-index-end) in
     all_kept c.args.rules.now
-    (c.loop-rule.invariant ∙ at_drop_all first_refusal c.args.rules.now c.loop-rule.rule-index ended)
+    (c.loop-rule.invariant ∙ at_drop_all first_refusal c.args.rules.now c.loop-rule.rule-index (omega arith))

@@ -1,12 +1,9 @@
 use Rattle.fx_statements.proofs.Folded.{one_folded}
-use Rattle.std.proofs.Common.{ap, arith, ◌∙◌}
-use Rattle.std.specs.Prelude.{slice_set}
+use Rattle.std.proofs.Common.{arith}
 use Rattle.fx_statements.proofs.fold.all_folded.Goals as goal
 
 pub loop-i-preserved : goal.loop-i-preserved
 loop-i-preserved c = (
-  c.set.ensures.codes
-      ∙ ap (λ codes. slice_set codes c.loop-i.i 1) c.loop-i.invariant.0
-      ∙ one_folded c.loop-i.i c.args.s c.loop-i-test.true,
+  cc (c.set.ensures.codes, c.loop-i.invariant.0, one_folded c.loop-i.i c.args.s c.loop-i-test.true),
   c.set.ensures.vector 2 c.args.s c.loop-i.invariant.1 (omega arith),
 )

@@ -1,6 +1,4 @@
-use Rattle.std.proofs.Common.{◌≡◌, ◌+◌, ◌-◌, true, Ok, ap, ap₂, sym, subst, ◌∙◌, arith}
-use Rattle.std.specs.Prelude.{IfErr, OnOk}
-use Rattle.fx_text.specs.Refusals.{IsRefused}
+use Rattle.std.proofs.Common.{◌+◌, ◌-◌, ap, ap₂, sym, ◌∙◌, arith}
 use Rattle.fx_text.specs.Ranges.{is_range, number_at_end}
 use Rattle.fx_text.proofs.RangeParts.{order}
 use Rattle.fx_effects.proofs.Mains.{number_is_short}
@@ -9,39 +7,33 @@ use Rattle.fx_statements.proofs.fold.fold_range.Goals as goal
 
 pub overflow_add-upto : goal.overflow_add-upto
 overflow_add-upto c =
-    let plain = c.is_range.ensures.plain c.if-not-is_range.false in
-    let high = number_is_short c.text-high.result.now plain.1 in
-    omega (arith, high, c.number_at_end-upto.ensures)
+    let high = number_is_short c.text-high.result.now (c.is_range.ensures.plain c.if-not-is_range.false).1 in
+    omega arith
 
 pub returns-clause-folded : goal.returns-clause-folded
 returns-clause-folded c =
     let first = c.args.first.now in
     let last = c.args.last.now in
-    let range : is_range first.text last.text ≡ true =
+    let range =
     ap₂ is_range (sym c.text-low.ensures) (sym c.text-high.ensures) ∙ sym c.if-not-is_range.ensures.value in
-    let low : c.number_at_end-from.result ≡ number_at_end first.text =
+    let low =
     c.number_at_end-from.ensures ∙ ap number_at_end c.text-low.ensures in
-    let high : c.number_at_end-upto.result ≡ number_at_end last.text =
+    let high =
     c.number_at_end-upto.ensures ∙ ap number_at_end c.text-high.ensures in
-    let all =
-    all_named c.args.factors.now c.args.codes.now first last range c.number_at_end-from.result
+    rw (all_named c.args.factors.now c.args.codes.now first last range c.number_at_end-from.result
     (c.number_at_end-upto.result - c.number_at_end-from.result + 1) low
-    (omega (arith, low, high, order first.text last.text range)) in
-    subst (λ r. OnOk c.fold_numbered.result (r ≡ Ok c.fold_numbered.new.codes)) (sym all)
-    c.fold_numbered.ensures.folded
+    (omega (arith, order first.text last.text range))) c.fold_numbered.ensures.folded
 
 pub returns-clause-refused : goal.returns-clause-refused
 returns-clause-refused c =
     let first = c.args.first.now in
     let last = c.args.last.now in
-    let range : is_range first.text last.text ≡ true =
+    let range =
     ap₂ is_range (sym c.text-low.ensures) (sym c.text-high.ensures) ∙ sym c.if-not-is_range.ensures.value in
-    let low : c.number_at_end-from.result ≡ number_at_end first.text =
+    let low =
     c.number_at_end-from.ensures ∙ ap number_at_end c.text-low.ensures in
-    let high : c.number_at_end-upto.result ≡ number_at_end last.text =
+    let high =
     c.number_at_end-upto.ensures ∙ ap number_at_end c.text-high.ensures in
-    let all =
-    all_named c.args.factors.now c.args.codes.now first last range c.number_at_end-from.result
+    rw (all_named c.args.factors.now c.args.codes.now first last range c.number_at_end-from.result
     (c.number_at_end-upto.result - c.number_at_end-from.result + 1) low
-    (omega (arith, low, high, order first.text last.text range)) in
-    subst (λ r. IfErr c.fold_numbered.result (IsRefused r)) (sym all) c.fold_numbered.ensures.refused
+    (omega (arith, order first.text last.text range))) c.fold_numbered.ensures.refused

@@ -1,4 +1,4 @@
-use Rattle.std.proofs.Common.{◌≡◌, ℕ, List, Ok, Err, length, refl, sym, subst, ◌∙◌}
+use Rattle.std.proofs.Common.{◌≡◌, ℕ, List, Ok, Err, length, sym, ◌∙◌}
 use Rattle.fx_text.specs.declared.refusal.Refusal.{Refusal}
 use Rattle.fx_text.specs.declared.refusal.ParseStop.{ParseStop}
 use Rattle.fx_text.specs.declared.refusal.ParseStop.TheVariants as stop
@@ -8,11 +8,9 @@ use Rattle.fx_settings.specs.declared.said.StepSaid.{StepSaid}
 use Rattle.fx_settings.specs.declared.settings.StepSettings.{StepSettings}
 use Rattle.fx_settings.specs.Settings.{unblocked_of, step_settings_of}
 use Rattle.fx_designs.specs.Problems.{Requirement}
-use Rattle.fx_vectors.specs.Question.{requirement_of}
-use Rattle.fx_statements.specs.Requirements.{IsOfKind, requirement_by}
-use Rattle.fx_statements.specs.Steps.{asked_by, examine_of}
+use Rattle.fx_statements.specs.Requirements.{requirement_by}
+use Rattle.fx_statements.specs.Steps.{asked_by}
 use Rattle.fx_statements.specs.Components.{check_components, components_place}
-use Rattle.fx_statements.specs.Valid.{CanBeRequired, HasFewComponents}
 use Rattle.fx_statements.proofs.Bounds.{kept, levels_said, without}
 use Rattle.fx_statements.proofs.Listed.{few_components}
 use Rattle.fx_text.proofs.Stops.{refused, stopped}
@@ -22,14 +20,14 @@ use Rattle.fx_statements.proofs.stepping.asked_by.Goals as goal
 module _ (factors : List (List ℕ)) (said : StepSaid) (statements : List (List Written)) where
   at_settings : (refusal : Refusal) → Err refusal ≡ unblocked_of (length factors) said
       → asked_by factors said statements ≡ Err refusal
-  at_settings refusal e = rw (← e) refl
+  at_settings refusal e = rw (← e)
 
   module _ (unblocked : StepSettings) (one : Ok unblocked ≡ unblocked_of (length factors) said) where
     at_requirement : (reason : ParseStop)
         → IsRefused (requirement_by unblocked.q factors statements unblocked.criterion) reason
         → IsRefused (asked_by factors said statements) reason
     at_requirement reason h =
-        rw (← one) (stopped (requirement_by unblocked.q factors statements unblocked.criterion) _ reason h)
+        rw (← one) (stopped _ _ reason h)
 
     module _ (requirement : Requirement) (settings : StepSettings)
         (two : requirement_by unblocked.q factors statements unblocked.criterion ≡ Ok requirement)
@@ -37,15 +35,15 @@ module _ (factors : List (List ℕ)) (said : StepSaid) (statements : List (List 
       at_listing : (refusal : Refusal)
           → Err refusal ≡ check_components unblocked.q (length factors) requirement (components_place statements)
           → asked_by factors said statements ≡ Err refusal
-      at_listing refusal e = rw (← one, two, ← three, ← e) refl
+      at_listing refusal e = rw (← one, two, ← three, ← e)
 
       all_asked : Ok tt ≡ check_components unblocked.q (length factors) requirement (components_place statements)
           → asked_by factors said statements ≡ Ok (settings, requirement)
-      all_asked e = rw (← one, two, ← three, ← e) refl
+      all_asked e = rw (← one, two, ← three, ← e)
 
 pub returns-in_err-unblocked-clause-refused : goal.returns-in_err-unblocked-clause-refused
 returns-in_err-unblocked-clause-refused c =
-    refused _ _ (stop.Refused c.in_err-unblocked.field-0.0) c.from_residual.ensures.1
+    refused _ _ _ c.from_residual.ensures.1
     (at_settings c.args.factors.now c.args.said c.args.statements.now _ c.in_err-unblocked.ensures.value)
 
 pub returns-in_err-demands-clause-refused : goal.returns-in_err-demands-clause-refused
@@ -56,7 +54,7 @@ returns-in_err-demands-clause-refused c =
 
 pub returns-in_err-check_components-clause-refused : goal.returns-in_err-check_components-clause-refused
 returns-in_err-check_components-clause-refused c =
-    refused _ _ (stop.Refused c.in_err-check_components.field-0.0) c.from_residual-in_err-check_components.ensures.1
+    refused _ _ _ c.from_residual-in_err-check_components.ensures.1
     (at_listing c.args.factors.now c.args.said c.args.statements.now c.in_ok-unblocked.unblocked
     c.in_ok-unblocked.ensures.value _ _ c.in_ok-demands.ensures.requirement c.in_ok-settings.ensures.value _
     c.in_err-check_components.ensures)
@@ -73,15 +71,12 @@ returns-clause-settings_valid c =
 
 pub returns-clause-kind : goal.returns-clause-kind
 returns-clause-kind c =
-    let same =
-    kept c.in_ok-unblocked.unblocked c.args.said c.in_ok-settings.settings (sym c.in_ok-settings.ensures.value) in
-    subst (λ kind. IsOfKind kind (requirement_of c.in_ok-demands.demands)) (sym same.0) c.in_ok-demands.ensures.kind
+    rw (kept c.in_ok-unblocked.unblocked c.args.said c.in_ok-settings.settings (sym c.in_ok-settings.ensures.value)).0
+    c.in_ok-demands.ensures.kind
 
 pub returns-clause-askable : goal.returns-clause-askable
 returns-clause-askable c =
-    let same =
-    kept c.in_ok-unblocked.unblocked c.args.said c.in_ok-settings.settings (sym c.in_ok-settings.ensures.value) in
-    subst (λ q. CanBeRequired q (length c.args.factors.now) (requirement_of c.in_ok-demands.demands)) (sym same.1)
+    rw (kept c.in_ok-unblocked.unblocked c.args.said c.in_ok-settings.settings (sym c.in_ok-settings.ensures.value)).1
     c.in_ok-demands.ensures.askable
 
 pub returns-clause-unblocked : goal.returns-clause-unblocked
@@ -91,16 +86,13 @@ returns-clause-unblocked c =
 
 pub returns-clause-few_components : goal.returns-clause-few_components
 returns-clause-few_components c =
-    let same =
-    kept c.in_ok-unblocked.unblocked c.args.said c.in_ok-settings.settings (sym c.in_ok-settings.ensures.value) in
-    subst (λ q. HasFewComponents q (length c.args.factors.now) (requirement_of c.in_ok-demands.demands)
-    (examine_of c.args.statements.now)) (sym same.1)
-    (few_components c.in_ok-unblocked.unblocked.q (length c.args.factors.now) (requirement_of c.in_ok-demands.demands)
+    rw (kept c.in_ok-unblocked.unblocked c.args.said c.in_ok-settings.settings (sym c.in_ok-settings.ensures.value)).1
+    (few_components c.in_ok-unblocked.unblocked.q _ _
     c.args.statements.now (sym c.in_ok-check_components.ensures))
 
 pub returns-clause-levels : goal.returns-clause-levels
 returns-clause-levels c =
     (kept c.in_ok-unblocked.unblocked c.args.said c.in_ok-settings.settings
     (sym c.in_ok-settings.ensures.value)).1
-    ∙ levels_said (length c.args.factors.now) c.args.said c.in_ok-unblocked.unblocked
+    ∙ levels_said _ c.args.said c.in_ok-unblocked.unblocked
     (sym c.in_ok-unblocked.ensures.value)

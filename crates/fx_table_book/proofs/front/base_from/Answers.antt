@@ -1,12 +1,11 @@
 use Rattle.std.proofs.Common.{sym, ◌∙◌}
-use Rattle.fx_table_book.specs.Texts.{base_by}
 use Rattle.fx_table_book.proofs.Shapes.{base_is}
 use Rattle.fx_table_book.proofs.front.base_from.Goals as goal
 
 pub returns-then-is_base-clause-valid : goal.returns-then-is_base-clause-valid
 returns-then-is_base-clause-valid c =
-    (base_is (base_by c.args.numbers.now) (sym c.is_base.ensures ∙ c.if-is_base.true)).base
+    (base_is _ (sym c.is_base.ensures ∙ c.if-is_base.true)).base
 
 pub returns-then-is_base-clause-proper : goal.returns-then-is_base-clause-proper
 returns-then-is_base-clause-proper c =
-    (base_is (base_by c.args.numbers.now) (sym c.is_base.ensures ∙ c.if-is_base.true)).proper
+    (base_is _ (sym c.is_base.ensures ∙ c.if-is_base.true)).proper

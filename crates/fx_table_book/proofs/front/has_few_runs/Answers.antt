@@ -4,6 +4,6 @@ use Rattle.fx_table_book.proofs.front.has_few_runs.Goals as goal
 
 pub pow-requires : goal.pow-requires
 pow-requires c =
-    let h = numbers_fit c.args.q c.args.m (order-bounds c.args.q c.requires.order).1 (omega (arith, c.requires.indexes))
+    let h = numbers_fit c.args.q c.args.m (order-bounds c.args.q c.requires.order).1 (omega arith)
     in
-    omega (arith, h)
+    omega arith

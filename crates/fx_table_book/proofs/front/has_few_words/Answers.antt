@@ -8,4 +8,4 @@ pub pow-requires : goal.pow-requires
 pow-requires c =
     let shape : Shape = record { q = c.args.q; m = c.args.m; s = c.args.s; t = 0 } in
     let h = words_fit shape (shape_is c.args.q c.args.m c.args.s c.requires) c.args.s (omega arith) in
-    omega (arith, h)
+    omega arith

@@ -1,6 +1,5 @@
-use Rattle.std.proofs.Common.{◌≡◌, ℕ, ◌+◌, ◌-◌, ◌<◌, ◌∙◌, ap, sym, List, [], ◌∷◌, drop, take, length, arith, Err, refl}
+use Rattle.std.proofs.Common.{◌≡◌, ℕ, ◌+◌, ◌-◌, ◌<◌, List, [], ◌∷◌, drop, take, length, arith, Err, refl}
 use Rattle.fx_book.specs.declared.fault.FaultKind.TheVariants.{Form}
-use Rattle.fx_book.specs.Parts.{split}
 use Rattle.fx_book.proofs.Splits.{some_parts}
 use Rattle.fx_book.proofs.Listed.{more_after}
 use Rattle.fx_table_book.specs.Texts.{row_of}
@@ -8,14 +7,15 @@ use Rattle.fx_table_book.proofs.line.row_after.Goals as goal
 
 pub returns-then-end-line-2-clause-row : goal.returns-then-end-line-2-clause-row
 returns-then-end-line-2-clause-row c =
-    let line : List ℕ = c.args.line.now in
-    let first = c.args.end in
+    let line = c.args.line.now in
     let next = c.next_stop-end.result in
-    sym (ap (row_of c.args.runs)
-    (more_after line first next (omega (arith, c.requires, c.if-end-line.false))
-    (c.next_stop-end.ensures.more c.if-end-line-2.true))
-    ∙ no_more c.args.runs (take (next - (first + 1)) (drop (first + 1) line)) (split 32 (drop (next + 1) line))
-    (some_parts 32 (drop (next + 1) line)))
+    cc (
+      more_after line c.args.end next (omega arith)
+          (c.next_stop-end.ensures.more c.if-end-line-2.true),
+      no_more c.args.runs
+          (take (next - (c.args.end + 1)) (drop (c.args.end + 1) line)) _
+          (some_parts 32 (drop (next + 1) line)),
+    )
   where
     no_more : (runs : ℕ) (r : List ℕ) (parts : List (List ℕ)) → 0 < length parts → row_of runs (r ∷ parts) ≡ Err Form
     no_more runs r [] h = absurd (omega arith)

@@ -10,15 +10,15 @@ loop-k-preserved c =
     let x = strata_of c.args.base in
     let old : List Part = parts_of c.loop-k.parts in
     record {
-      from = omega (arith, c.loop-k.invariant.from);
+      from = omega arith;
       so_far =
           turn_more x [] old (parts_of c.put_confounded_of.new.parts)
           (λ k. Words false (2 * k - 2) ∷ Words false (2 * k - 1) ∷ Words true k ∷ []) c.loop-k.k _
           c.loop-k.invariant.from (omega arith) c.loop-k.invariant.so_far
           (c.in_ok-put_confounded_of.ensures
-          ∙ ap (λ (l : List Part). l ++ compared x (Words true c.loop-k.k ∷ []))
+          ∙ ap (λ l. l ++ compared x (Words true c.loop-k.k ∷ []))
           (c.in_ok-put_constant_of-2.ensures
-          ∙ ap (λ (l : List Part). l ++ compared x (Words false (2 * c.loop-k.k - 1) ∷ []))
+          ∙ ap (λ l. l ++ compared x (Words false (2 * c.loop-k.k - 1) ∷ []))
           c.in_ok-put_constant_of.ensures)
           ∙ three x old (Words false (2 * c.loop-k.k - 2)) (Words false (2 * c.loop-k.k - 1)) (Words true c.loop-k.k));
     }

@@ -7,7 +7,7 @@ use Rattle.fx_table_book.proofs.order.put_confounded.Goals as goal
 pub loop-k-preserved : goal.loop-k-preserved
 loop-k-preserved c =
     record {
-      from = omega (arith, c.loop-k.invariant.from);
+      from = omega arith;
       so_far =
           turn_more (strata_of c.args.base) (parts_of c.args.parts.now) (parts_of c.loop-k.parts)
           (parts_of c.put_confounded_of.new.parts) (λ k. Words true k ∷ []) c.loop-k.k _

@@ -10,12 +10,12 @@ loop-k-preserved c =
     let x = strata_of c.args.base in
     let old : List Part = parts_of c.loop-k.parts in
     record {
-      from = omega (arith, c.loop-k.invariant.from);
+      from = omega arith;
       so_far =
           turn_more x [] old (parts_of c.put_confounded_of.new.parts)
           (λ k. Words false (k + 1) ∷ Words true k ∷ []) c.loop-k.k _ c.loop-k.invariant.from
           (omega arith) c.loop-k.invariant.so_far
           (c.in_ok-put_confounded_of.ensures
-          ∙ ap (λ (l : List Part). l ++ compared x (Words true c.loop-k.k ∷ [])) c.in_ok-put_constant_of.ensures
+          ∙ ap (λ l. l ++ compared x (Words true c.loop-k.k ∷ [])) c.in_ok-put_constant_of.ensures
           ∙ two x old (Words false (c.loop-k.k + 1)) (Words true c.loop-k.k));
     }

@@ -6,26 +6,25 @@ use Rattle.fx_table_book.specs.declared.base.Base.{Base}
 use Rattle.fx_table_book.specs.declared.order.Order.{Order}
 use Rattle.fx_table_book.specs.declared.order.Order.TheVariants.{FactorsFirst}
 use Rattle.fx_table_book.specs.Tables.{strata_of, order_of, part_of}
-use Rattle.fx_table_book.specs.Texts.{IsBookReading, from_pattern, with_key, with_entries, pattern_of, entries}
+use Rattle.fx_table_book.specs.Texts.{IsBookReading, with_key, with_entries, pattern_of, entries}
 use Rattle.fx_table_book.proofs.Fronts.{pattern_line, key_fault, key_taken, entries_fault}
 use Rattle.fx_table_book.proofs.reading.from_pattern.Goals as goal
 
 pub returns-in-Err-clause-read : goal.returns-in-Err-clause-read
 returns-in-Err-clause-read c =
-    let bytes : List ℕ = c.args.bytes.now in
-    let end : ℕ = c.line_end-end.result in
+    let bytes = c.args.bytes.now in
+    let end = c.line_end-end.result in
     let rest : List (List ℕ) = split 10 (drop (end + 1) bytes) in
     let line : List ℕ = take (end - c.args.at) (drop c.args.at bytes) in
     let cut : split 10 (drop c.args.at bytes) ≡ line ∷ rest =
-    c.line_end-end.ensures.more (omega (arith, c.line_end-end.ensures.within, c.if-end-bytes.false)) in
+    c.line_end-end.ensures.more (omega arith) in
     let some = some_parts 10 (drop (end + 1) bytes) in
     let b : Base = c.args.base in
     let own : Order = FactorsFirst in
     let count : ℕ = c.len-count.result in
     let many : count ≡ length (order_of own (strata_of b)) =
-    c.len-count.ensures
-    ∙ (sym (length-map c.in_ok-parts.field-0 part_of) ∙ ap length c.in_ok-parts.ensures.parts) in
-    let e : from_pattern b (split 10 (drop c.args.at bytes)) ≡ with_key b own rest (pattern_of b.q count line) =
+    cc (c.len-count.ensures, length-map c.in_ok-parts.field-0 part_of, c.in_ok-parts.ensures.parts) in
+    let e =
     pattern_line line rest (split 10 (drop c.args.at bytes)) cut some b count many in
     subst (λ r. IsBookReading r (Err c.in-Err.e)) (sym e)
     (key_fault line rest (split 10 (drop c.args.at bytes)) cut some b own (pattern_of b.q count line) c.in-Err.e
@@ -33,20 +32,19 @@ returns-in-Err-clause-read c =
 
 pub returns-in-Err-read_entries-clause-read : goal.returns-in-Err-read_entries-clause-read
 returns-in-Err-read_entries-clause-read c =
-    let bytes : List ℕ = c.args.bytes.now in
+    let bytes = c.args.bytes.now in
     let end : ℕ = c.line_end-end.result in
     let rest : List (List ℕ) = split 10 (drop (end + 1) bytes) in
     let line : List ℕ = take (end - c.args.at) (drop c.args.at bytes) in
-    let cut : split 10 (drop c.args.at bytes) ≡ line ∷ rest =
+    let cut =
     c.line_end-end.ensures.more (omega (arith, c.line_end-end.ensures.within, c.if-end-bytes.false)) in
     let some = some_parts 10 (drop (end + 1) bytes) in
     let b : Base = c.args.base in
     let own : Order = FactorsFirst in
     let count : ℕ = c.len-count.result in
     let many : count ≡ length (order_of own (strata_of b)) =
-    c.len-count.ensures
-    ∙ (sym (length-map c.in_ok-parts.field-0 part_of) ∙ ap length c.in_ok-parts.ensures.parts) in
-    let e : from_pattern b (split 10 (drop c.args.at bytes)) ≡ with_key b own rest (pattern_of b.q count line) =
+    cc (c.len-count.ensures, length-map c.in_ok-parts.field-0 part_of, c.in_ok-parts.ensures.parts) in
+    let e =
     pattern_line line rest (split 10 (drop c.args.at bytes)) cut some b count many in
     let key = key_taken (pattern_of b.q count line) c.in-Ok.key c.in-Ok.ensures.read in
     subst (λ r. IsBookReading r (Err c.in-Err-read_entries.e)) (sym (e ∙ ap (with_key b own rest) key))
@@ -54,20 +52,19 @@ returns-in-Err-read_entries-clause-read c =
 
 pub returns-in-Ok-read_entries-clause-read : goal.returns-in-Ok-read_entries-clause-read
 returns-in-Ok-read_entries-clause-read c =
-    let bytes : List ℕ = c.args.bytes.now in
+    let bytes = c.args.bytes.now in
     let end : ℕ = c.line_end-end.result in
     let rest : List (List ℕ) = split 10 (drop (end + 1) bytes) in
     let line : List ℕ = take (end - c.args.at) (drop c.args.at bytes) in
-    let cut : split 10 (drop c.args.at bytes) ≡ line ∷ rest =
+    let cut =
     c.line_end-end.ensures.more (omega (arith, c.line_end-end.ensures.within, c.if-end-bytes.false)) in
     let some = some_parts 10 (drop (end + 1) bytes) in
     let b : Base = c.args.base in
     let own : Order = FactorsFirst in
     let count : ℕ = c.len-count.result in
     let many : count ≡ length (order_of own (strata_of b)) =
-    c.len-count.ensures
-    ∙ (sym (length-map c.in_ok-parts.field-0 part_of) ∙ ap length c.in_ok-parts.ensures.parts) in
-    let e : from_pattern b (split 10 (drop c.args.at bytes)) ≡ with_key b own rest (pattern_of b.q count line) =
+    cc (c.len-count.ensures, length-map c.in_ok-parts.field-0 part_of, c.in_ok-parts.ensures.parts) in
+    let e =
     pattern_line line rest (split 10 (drop c.args.at bytes)) cut some b count many in
     let key = key_taken (pattern_of b.q count line) c.in-Ok.key c.in-Ok.ensures.read in
     e

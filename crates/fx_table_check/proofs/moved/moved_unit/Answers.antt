@@ -5,5 +5,4 @@ use Rattle.fx_table_check.proofs.moved.moved_unit.Goals as goal
 pub image_of-requires-clause-row : goal.image_of-requires-clause-row
 image_of-requires-clause-row c =
     let e = c.power.ensures.power in
-    let l = power-less c.args.base c.requires.base c.args.place c.requires.place in
-    omega arith
+    omega (arith, power-less c.args.base c.requires.base c.args.place c.requires.place)

@@ -1,9 +1,6 @@
-use Rattle.std.proofs.Common.{◌≡◌, refl, sym, subst, ap, ◌∙◌}
-use Rattle.std.specs.Prelude.{All}
-use Rattle.fx_strata.specs.Books.{Claim}
-use Rattle.fx_table_book.specs.Tables.{claim_of, entries_of, IsSmall}
+use Rattle.std.proofs.Common.{◌≡◌, refl, sym, ap, ◌∙◌}
+use Rattle.fx_table_book.specs.Tables.{claim_of, entries_of}
 use Rattle.fx_table_check.specs.Goals.{claim_in}
-use Rattle.fx_table_check.specs.Prefixes.{PrefixView}
 use Rattle.fx_table_check.specs.Checking.{flaw_of, verdict_of}
 use Rattle.fx_table_check.proofs.Good.{proved}
 use Rattle.fx_table_check.proofs.walk.check_table.Goals as goal
@@ -13,20 +10,19 @@ is : (c : After-walk)
     → c.walk.result ≡ verdict_of (flaw_of (claim_of c.args.book.now) (entries_of c.args.book.now.entries))
 is c =
     c.walk.ensures
-    ∙ ap (λ (v : PrefixView). verdict_of
+    ∙ ap (λ v. verdict_of
     (flaw_of (claim_in v.base c.in_ok-goal.goal) (entries_of c.args.book.now.entries)))
     c.in_ok-prefix.ensures
-    ∙ ap (λ (x : Claim). verdict_of (flaw_of x (entries_of c.args.book.now.entries))) c.in_ok-goal.ensures.claim
+    ∙ ap (λ x. verdict_of (flaw_of x (entries_of c.args.book.now.entries))) c.in_ok-goal.ensures.claim
 
 pub returns-clause-verdict : goal.returns-clause-verdict
 returns-clause-verdict c = is (goal.at.returns-clause-verdict c).After-walk
 
 pub returns-clause-proved : goal.returns-clause-proved
 returns-clause-proved c = λ ok.
-    proved c.args.book.now.base c.requires.base (claim_of c.args.book.now) refl (entries_of c.args.book.now.entries)
+    proved c.args.book.now.base c.requires.base _ refl _
     (sym (is (goal.at.returns-clause-proved c).After-walk) ∙ ok) c.requires.proper.factors
 
 pub walk-requires-clause-entries : goal.walk-requires-clause-entries
 walk-requires-clause-entries c =
-    subst (λ (v : PrefixView). All (IsSmall v.base) c.args.book.now.entries) (sym c.in_ok-prefix.ensures)
-    c.requires.entries
+    rw c.in_ok-prefix.ensures c.requires.entries

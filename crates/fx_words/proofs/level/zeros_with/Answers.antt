@@ -1,7 +1,5 @@
-use Rattle.std.proofs.Common.{◌≡◌, ◌<◌, ◌+◌, ◌-◌, ◌*◌, ◌^◌, ◌∙◌, slice_index_or, ap, arith}
+use Rattle.std.proofs.Common.{◌≡◌, ◌<◌, ◌+◌, ◌-◌, ◌*◌, ◌^◌, ◌∙◌, slice_index_or, arith}
 use Rattle.fx_laws.proofs.Tables.{is_order-field}
-use Rattle.fx_vectors.specs.declared.shape.Shape.{Shape}
-use Rattle.fx_vectors.specs.Matrix.{IsMatrix}
 use Rattle.fx_words.specs.Spreads.{so_far}
 use Rattle.fx_words.specs.Tables.{but_last}
 use Rattle.fx_words.proofs.Levels.{so_far-all}
@@ -16,27 +14,23 @@ total : (c : After-from-2)
     ≡ so_far c.args.prefix.now.shape.q c.args.prefix.now.shape.m (but_last c.args.prefix.now.rows) c.args.last
     (c.args.i + 1) 0 c.args.prefix.now.shape.q
 total c =
-    let s : Shape = c.args.prefix.now.shape in
-    let valid : IsMatrix s c.args.prefix.now.rows = c.shape-q.ensures.valid in
-    let f = is_order-field s.q valid.shaped.order in
-    let q : c.from-2.result ≡ s.q = c.from-2.ensures ∙ ap (λ (z : Shape). z.q) c.shape-q.ensures.shape in
-    let place : c.from.result ≡ c.place.result = c.from.ensures in
-    ap (λ k. slice_index_or c.args.level.now ((c.args.i + 1) * c.len-kept.result) 0
-    + (k - 1) * slice_index_or c.args.level.now (c.args.i * c.len-kept.result + c.from.result) 0) q
-    ∙ ap (λ k. slice_index_or c.args.level.now ((c.args.i + 1) * c.len-kept.result) 0
-    + (s.q - 1) * slice_index_or c.args.level.now (c.args.i * c.len-kept.result + k) 0) place
-    ∙ zeros_both s.q s.m (c.args.i + 2) f (but_last c.args.prefix.now.rows) c.args.classes.now.points c.args.level.now
+    let s = c.args.prefix.now.shape in
+    let valid = c.shape-q.ensures.valid in
+    let q : c.from-2.result ≡ s.q = cc (c.from-2.ensures, c.shape-q.ensures.shape) in
+    let place = c.from.ensures in
+    cc (zeros_both s.q s.m _ (is_order-field s.q valid.shaped.order) (but_last c.args.prefix.now.rows)
+    c.args.classes.now.points c.args.level.now
     c.requires.counts c.len-kept.result c.args.last c.args.i c.place.result c.len-kept.ensures.count
     c.len-kept.ensures.some c.len-kept.ensures.zero (omega arith)
-    (omega (arith, c.place.ensures.below, c.len-kept.ensures.count)) c.requires.last
-    (alike_points s c.args.classes.now c.requires.classes _ _ c.place.ensures.alike)
+    (omega arith) c.requires.last
+    (alike_points s c.args.classes.now c.requires.classes _ _ c.place.ensures.alike))
 
 fits : (c : After-from-2)
     → so_far c.args.prefix.now.shape.q c.args.prefix.now.shape.m (but_last c.args.prefix.now.rows) c.args.last
     (c.args.i + 1) 0 c.args.prefix.now.shape.q < 2 ^ 127
 fits c =
-    let s : Shape = c.args.prefix.now.shape in
-    let valid : IsMatrix s c.args.prefix.now.rows = c.shape-q.ensures.valid in
+    let s = c.args.prefix.now.shape in
+    let valid = c.shape-q.ensures.valid in
     let f = is_order-field s.q valid.shaped.order in
     both_fit s valid.shaped f c.args.prefix.now.rows c.requires.few c.requires.some c.args.last (c.args.i + 1) 0 s.q
     (some_runs s.q s.m f) (omega arith)
@@ -49,8 +43,8 @@ overflow_add-result c = omega (arith, total c, fits c)
 
 pub returns : goal.returns
 returns c =
-    let s : Shape = c.args.prefix.now.shape in
-    let valid : IsMatrix s c.args.prefix.now.rows = c.shape-q.ensures.valid in
+    let s = c.args.prefix.now.shape in
+    let valid = c.shape-q.ensures.valid in
     let f = is_order-field s.q valid.shaped.order in
     total (goal.at.returns c).After-from-2
     ∙ so_far-all s.q s.m f (but_last c.args.prefix.now.rows) c.args.last (c.args.i + 1) 0 (some_runs s.q s.m f)

@@ -1,4 +1,4 @@
-use Rattle.std.proofs.Common.{ℕ, ◌≡◌, ◌<◌, ◌+◌, ◌*◌, [], List, length, arith}
+use Rattle.std.proofs.Common.{ℕ, ◌≡◌, ◌<◌, ◌+◌, ◌*◌, [], length, arith}
 use Rattle.std.proofs.lemmas.List.{get_or_default}
 use Rattle.fx_barred.proofs.Listing.{stands-in}
 use Rattle.fx_barred.proofs.next_vectors.NextVectors.fill_table.Goals as goal
@@ -6,12 +6,12 @@ use Rattle.fx_barred.proofs.next_vectors.NextVectors.fill_table.Goals as goal
 pub fill_soon-requires-clause-stand : goal.fill_soon-requires-clause-stand
 fill_soon-requires-clause-stand c =
     let r = c.args.self.now.reached.now in
-    let lists : List (List ℕ) = c.args.lists.now in
-    let i : ℕ = length r.rows in
+    let lists = c.args.lists.now in
+    let i = length r.rows in
     let place : ℕ = 4 * c.len-n.result in
-    let at : place ≡ 4 * i + 0 = omega (arith, c.len-n.ensures.count) in
+    let at : place ≡ 4 * i + 0 = omega arith in
     let there : place < length lists =
-    omega (arith, c.requires.lists.len, c.args.self.now.room, c.len-n.ensures.count) in
+    omega arith in
     stands-in r c.args.self.now.words.now i 0 i c.args.self.now.start c.args.self.now.end lists place
     c.index-lists-n.result c.args.self.now.range c.requires.lists c.args.self.now.room (omega arith) at (omega arith)
     (omega arith) (get_or_default lists place c.index-lists-n.result [] there)

@@ -1,4 +1,4 @@
-use Rattle.std.proofs.Common.{ℕ, List, [], length, refl, subst, arith}
+use Rattle.std.proofs.Common.{ℕ, List, [], length, refl, arith}
 use Rattle.std.proofs.lemmas.Result.{IfOk-weaker}
 use Rattle.fx_designs.specs.Jobs.{nodes_inside}
 use Rattle.fx_vectors.specs.declared.question.Question.{Question}
@@ -17,29 +17,29 @@ AreByNumber question lot rows limit count ends =
 
 pub share-requires-clause-count : goal.share-requires-clause-count
 share-requires-clause-count g c κs within =
-    (c.len-count.ensures, omega (arith, c.len-count.ensures, c.requires.jobs.rows_are.few))
+    (c.len-count.ensures, omega arith)
 
 pub returns-clause-ends : goal.returns-clause-ends
 returns-clause-ends g c =
     let s = c.args.self.now in
-    let l : List ℕ = s.lot.now.rows in
-    let rows : List ℕ = s.rows.now in
+    let l = s.lot.now.rows in
     IfOk-weaker c.share.result _ _ (λ worked h.
-    let all : AreByNumber s.question.now l rows c.args.limit (length rows) worked.ends =
-    subst (λ n. AreByNumber s.question.now l rows c.args.limit n worked.ends) c.len-count.ensures h in
-    (ends-are s.question.now c.requires.jobs.lot_is.valid l c.requires.jobs.lot_is.is_lot rows c.requires.jobs.rows_are
-    c.args.limit [] rows worked.ends refl all).0) c.share.ensures.ends
+    let all =
+    rw c.len-count.ensures at h in
+    (ends-are s.question.now c.requires.jobs.lot_is.valid l c.requires.jobs.lot_is.is_lot s.rows.now
+    c.requires.jobs.rows_are
+    c.args.limit [] s.rows.now worked.ends refl all).0) c.share.ensures.ends
 
 pub returns-clause-sized : goal.returns-clause-sized
 returns-clause-sized g c =
     let s = c.args.self.now in
-    let l : List ℕ = s.lot.now.rows in
-    let rows : List ℕ = s.rows.now in
+    let l = s.lot.now.rows in
     IfOk-weaker c.share.result _ _ (λ worked h.
-    let all : AreByNumber s.question.now l rows c.args.limit (length rows) worked.ends =
-    subst (λ n. AreByNumber s.question.now l rows c.args.limit n worked.ends) c.len-count.ensures h in
-    (ends-are s.question.now c.requires.jobs.lot_is.valid l c.requires.jobs.lot_is.is_lot rows c.requires.jobs.rows_are
-    c.args.limit [] rows worked.ends refl all).1) c.share.ensures.ends
+    let all =
+    rw c.len-count.ensures at h in
+    (ends-are s.question.now c.requires.jobs.lot_is.valid l c.requires.jobs.lot_is.is_lot s.rows.now
+    c.requires.jobs.rows_are
+    c.args.limit [] s.rows.now worked.ends refl all).1) c.share.ensures.ends
 
 pub share-requires-clause-ready : goal.share-requires-clause-ready
 share-requires-clause-ready g c κs within =

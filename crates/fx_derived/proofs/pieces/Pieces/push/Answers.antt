@@ -12,7 +12,7 @@ ends_are : (c : Else-is_err-2)
     → c.push.new.self.items ≡ c.self.inside.ends.items ++ length (c.self.inside.bytes.items ++ c.args.piece.now) ∷ []
 ends_are c =
     let good : is_ok c.push.result ≡ true = search rules in
-    let size : c.len-end.result ≡ length (c.self.inside.bytes.items ++ c.args.piece.now) =
+    let size =
     c.len-end.ensures ∙ c.extend_from_slice.new.self.ok.0 ∙ ap length (bytes_are c) in
     rw (good, size) at c.push.ensures.items
 

@@ -4,11 +4,11 @@ use Rattle.fx_derived.proofs.texts.Texts.append.Goals as goal
 
 pub overflow_add-self : goal.overflow_add-self
 overflow_add-self c =
-    let more = are_joined c.self.inside.len c.self.inside.bytes.items c.self.invariant c.args.row.now in
-    let fits = count_fits _ _ more in
+    let fits =
+    count_fits _ _ (are_joined c.self.inside.len c.self.inside.bytes.items c.self.invariant c.args.row.now) in
     let bytes = rw c.as_bytes.ensures at c.in_ok-extend.ensures.ok in
     omega
-    (arith, fits, ap length bytes, c.extend.new.bytes.ok.0, c.len-bytes.ensures, c.len-bytes.type_inv, c.len.ensures)
+    (arith, ap length bytes)
 
 pub invariant_of-self-2 : goal.invariant_of-self-2
 invariant_of-self-2 c =

@@ -4,11 +4,11 @@ use Rattle.fx_derived.proofs.texts.Texts.push.Goals as goal
 
 pub overflow_add-self : goal.overflow_add-self
 overflow_add-self c =
-    let more =
-    are_joined c.self.inside.len c.self.inside.bytes.items c.self.invariant (c.args.text.now ∷ []) in
-    let fits = count_fits _ _ more in
+    let fits =
+    count_fits _ _ (are_joined c.self.inside.len c.self.inside.bytes.items c.self.invariant (c.args.text.now ∷ []))
+    in
     omega
-    (arith, fits, ap length c.in_ok-pack.ensures.ok, c.pack.new.bytes.ok.0, c.len-bytes.ensures, c.len-bytes.type_inv)
+    (arith, ap length c.in_ok-pack.ensures.ok)
 
 pub invariant_of-self-2 : goal.invariant_of-self-2
 invariant_of-self-2 c =
@@ -18,4 +18,4 @@ invariant_of-self-2 c =
 pub returns-clause-ok : goal.returns-clause-ok
 returns-clause-ok c =
     rw (← c.self.view_is, c.in_ok-pack.ensures.ok)
-    (joined c.self.inside.len c.self.inside.bytes.items c.self.invariant (c.args.text.now ∷ []))
+    (joined c.self.inside.len c.self.inside.bytes.items c.self.invariant _)

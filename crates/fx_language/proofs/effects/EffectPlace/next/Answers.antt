@@ -39,7 +39,7 @@ returns-in-First c =
 
 pub returns-in-Name : goal.returns-in-Name
 returns-in-Name c =
-    ap (λ place. derivative c.args.symbol (effects_left c.args.list place)) c.in-Name.is ∙ c.behind_name.ensures
+    cc (c.in-Name.is, c.behind_name.ensures)
 
 pub returns-in-Range : goal.returns-in-Range
 returns-in-Range c =
@@ -55,7 +55,7 @@ returns-in-Factor c =
 
 pub returns-in-Product : goal.returns-in-Product
 returns-in-Product c =
-    ap (λ place. derivative c.args.symbol (effects_left c.args.list place)) c.in-Product.is ∙ c.behind_product.ensures
+    cc (c.in-Product.is, c.behind_product.ensures)
 
 pub returns-in-Bound : goal.returns-in-Bound
 returns-in-Bound c =
@@ -65,4 +65,4 @@ returns-in-Bound c =
 
 pub returns-in-More : goal.returns-in-More
 returns-in-More c =
-    ap (λ place. derivative c.args.symbol (effects_left c.args.list place)) c.in-More.is ∙ c.behind_effect.ensures
+    cc (c.in-More.is, c.behind_effect.ensures)

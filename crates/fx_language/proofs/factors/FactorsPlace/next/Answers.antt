@@ -15,7 +15,7 @@ returns-in-First c =
     ∙ ap shape_left (sym c.any_word.ensures)
 
 pub returns-in-Name : goal.returns-in-Name
-returns-in-Name c = ap (λ place. derivative c.args.symbol (factors_left place)) c.in-Name.is ∙ c.behind_name.ensures
+returns-in-Name c = cc (c.in-Name.is, c.behind_name.ensures)
 
 pub returns-in-Range : goal.returns-in-Range
 returns-in-Range c =
@@ -24,7 +24,7 @@ returns-in-Range c =
     ∙ ap shape_left (sym c.any_word-in-Range.ensures)
 
 pub returns-in-More : goal.returns-in-More
-returns-in-More c = ap (λ place. derivative c.args.symbol (factors_left place)) c.in-More.is ∙ c.behind_item.ensures
+returns-in-More c = cc (c.in-More.is, c.behind_item.ensures)
 
 pub returns-in-Option : goal.returns-in-Option
 returns-in-Option c =

@@ -9,10 +9,10 @@ use Rattle.fx_language.proofs.foldover.FoldoverPlace.next.Goals as goal
 
 pub returns-in-Items : goal.returns-in-Items
 returns-in-Items c =
-    ap (λ place. derivative c.args.symbol (foldover_left place)) c.in-Items.is ∙ c.behind_item.ensures
+    cc (c.in-Items.is, c.behind_item.ensures)
 
 pub returns-in-Name : goal.returns-in-Name
-returns-in-Name c = ap (λ place. derivative c.args.symbol (foldover_left place)) c.in-Name.is ∙ c.behind_name.ensures
+returns-in-Name c = cc (c.in-Name.is, c.behind_name.ensures)
 
 pub returns-in-Range : goal.returns-in-Range
 returns-in-Range c =

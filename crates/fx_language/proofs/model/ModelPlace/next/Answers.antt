@@ -17,9 +17,7 @@ skipped s h = refl
 
 pub returns-in_default-symbol : goal.returns-in_default-symbol
 returns-in_default-symbol c =
-    ap (λ place. derivative c.args.symbol (model_left place)) c.in-Nonnegligible.is
-    ∙ skipped c.args.symbol c.in_default-symbol.not-Nonnegligible
-    ∙ c.option_or_end.ensures
+    cc (c.in-Nonnegligible.is, skipped c.args.symbol c.in_default-symbol.not-Nonnegligible, c.option_or_end.ensures)
 
 pub returns-in-Equals : goal.returns-in-Equals
 returns-in-Equals c =
@@ -29,7 +27,7 @@ returns-in-Equals c =
 
 pub returns-in-Slash : goal.returns-in-Slash
 returns-in-Slash c =
-    ap (λ place. derivative c.args.symbol (model_left place)) c.in-Slash.is ∙ c.option_or_end-in-Slash.ensures
+    cc (c.in-Slash.is, c.option_or_end-in-Slash.ensures)
 
 pub returns-in-Option : goal.returns-in-Option
 returns-in-Option c =

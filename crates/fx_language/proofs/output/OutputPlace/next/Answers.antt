@@ -27,7 +27,7 @@ returns-in-DataSet c =
     ∙ ap shape_left (sym c.any_word.ensures)
 
 pub returns-in-Options : goal.returns-in-Options
-returns-in-Options c = ap (λ place. derivative c.args.symbol (output_left place)) c.in-Options.is ∙ c.option.ensures
+returns-in-Options c = cc (c.in-Options.is, c.option.ensures)
 
 pub returns-in-ReplicationEquals : goal.returns-in-ReplicationEquals
 returns-in-ReplicationEquals c =
@@ -43,7 +43,7 @@ returns-in-Replication c =
 
 pub returns-in-Randomize : goal.returns-in-Randomize
 returns-in-Randomize c =
-    ap (λ place. derivative c.args.symbol (output_left place)) c.in-Randomize.is ∙ c.seed_or_option.ensures
+    cc (c.in-Randomize.is, c.seed_or_option.ensures)
 
 pub returns-in-Seed : goal.returns-in-Seed
 returns-in-Seed c =
@@ -65,7 +65,7 @@ returns-in-FirstInBrackets c =
 
 pub returns-in-InBrackets : goal.returns-in-InBrackets
 returns-in-InBrackets c =
-    ap (λ place. derivative c.args.symbol (output_left place)) c.in-InBrackets.is ∙ c.name_or_end.ensures
+    cc (c.in-InBrackets.is, c.name_or_end.ensures)
 
 pub returns-in-ColumnEquals : goal.returns-in-ColumnEquals
 returns-in-ColumnEquals c =
@@ -81,11 +81,11 @@ returns-in-Column c =
 
 pub returns-in-ColumnValues : goal.returns-in-ColumnValues
 returns-in-ColumnValues c =
-    ap (λ place. derivative c.args.symbol (output_left place)) c.in-ColumnValues.is ∙ c.values_or_option.ensures
+    cc (c.in-ColumnValues.is, c.values_or_option.ensures)
 
 pub returns-in-ValuesOrFactor : goal.returns-in-ValuesOrFactor
 returns-in-ValuesOrFactor c =
-    ap (λ place. derivative c.args.symbol (output_left place)) c.in-ValuesOrFactor.is ∙ c.rest_or_values.ensures
+    cc (c.in-ValuesOrFactor.is, c.rest_or_values.ensures)
 
 pub returns-in-Factor : goal.returns-in-Factor
-returns-in-Factor c = ap (λ place. derivative c.args.symbol (output_left place)) c.in-Factor.is ∙ c.values.ensures
+returns-in-Factor c = cc (c.in-Factor.is, c.values.ensures)

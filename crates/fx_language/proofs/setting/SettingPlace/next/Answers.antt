@@ -14,7 +14,7 @@ use Rattle.fx_language.proofs.setting.SettingPlace.next.Goals as goal
 word_alone : (s word : Symbol) → s ≢ Whole
     → cond (is Whole s || is word s) Empty Never ▸ ending ≡ shape_left (if is word s then Some StatementEnd else None)
 word_alone Whole word h = absurd (h refl)
-word_alone s word h = one (is word s) StatementEnd
+word_alone s word h = one _ StatementEnd
 
 pub returns-in-Equals : goal.returns-in-Equals
 returns-in-Equals c =

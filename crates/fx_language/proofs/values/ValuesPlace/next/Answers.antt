@@ -30,14 +30,14 @@ returns-in-Open-Texts c =
     ∙ ap shape_left (sym c.only-in-Open-Texts.ensures)
 
 pub returns-in-Number : goal.returns-in-Number
-returns-in-Number c = ap (λ place. derivative c.args.symbol (values_left place)) c.in-Number.is ∙ c.signed.ensures
+returns-in-Number c = cc (c.in-Number.is, c.signed.ensures)
 
 pub returns-in-Unsigned : goal.returns-in-Unsigned
-returns-in-Unsigned c = ap (λ place. derivative c.args.symbol (values_left place)) c.in-Unsigned.is ∙ c.unsigned.ensures
+returns-in-Unsigned c = cc (c.in-Unsigned.is, c.unsigned.ensures)
 
 pub returns-in-MoreNumbers : goal.returns-in-MoreNumbers
 returns-in-MoreNumbers c =
-    ap (λ place. derivative c.args.symbol (values_left place)) c.in-MoreNumbers.is ∙ c.number_or_end.ensures
+    cc (c.in-MoreNumbers.is, c.number_or_end.ensures)
 
 pub returns-in-Text : goal.returns-in-Text
 returns-in-Text c =
@@ -47,4 +47,4 @@ returns-in-Text c =
 
 pub returns-in-MoreTexts : goal.returns-in-MoreTexts
 returns-in-MoreTexts c =
-    ap (λ place. derivative c.args.symbol (values_left place)) c.in-MoreTexts.is ∙ c.text_or_end.ensures
+    cc (c.in-MoreTexts.is, c.text_or_end.ensures)

@@ -1,10 +1,9 @@
-use Rattle.std.proofs.Common.{◌≡◌, List, ℕ, ap, ◌∙◌}
+use Rattle.std.proofs.Common.{◌≡◌, ap, ◌∙◌}
 use Rattle.std.specs.Map.{lookup}
 use Rattle.std.specs.Cmp.Lexicographic.{slice_cmp}
 use Rattle.std.specs.Ordering.{is_eq, nat_cmp}
-use Rattle.std.specs.Str.{bytes_eq, str_to_ascii_lowercase}
+use Rattle.std.specs.Str.{bytes_eq}
 use Rattle.fx_text.specs.Names.{place_of}
-use Rattle.fx_outputs.specs.declared.earlier.EarlierPlan.{EarlierPlan}
 use Rattle.fx_outputs.specs.Earlier.{plan_names}
 use Rattle.fx_outputs.proofs.Folded.{same_form}
 use Rattle.fx_outputs.proofs.earlier.EarlierPlans.find.Goals as goal
@@ -15,12 +14,11 @@ found : (c : After-get)
     → lookup (λ x. is_eq (slice_cmp nat_cmp c.as_slice.result.now x.items)) c.self.inside.numbers.entries
     ≡ place_of c.args.name.now (plan_names c.args.self.now)
 found c =
-    let form : c.as_slice.result.now ≡ str_to_ascii_lowercase c.args.name.now =
-    c.as_slice.ensures.value ∙ c.in_ok-key.ensures in
     same_form c.as_slice.result.now c.self.inside.numbers.entries
-    ∙ ap (λ (f : List ℕ). lookup (λ x. bytes_eq f x.items) c.self.inside.numbers.entries) form
+    ∙ ap (λ f. lookup (λ x. bytes_eq f x.items) c.self.inside.numbers.entries)
+    (c.as_slice.ensures.value ∙ c.in_ok-key.ensures)
     ∙ c.self.invariant c.args.name.now
-    ∙ ap (λ (plans : List EarlierPlan). place_of c.args.name.now (plan_names plans)) c.self.view_is
+    ∙ ap (λ plans. place_of c.args.name.now (plan_names plans)) c.self.view_is
 
 pub returns-in-Some : goal.returns-in-Some
 returns-in-Some c = c.in-Some.ensures.value ∙ found (goal.at.returns-in-Some c).After-get

@@ -1,4 +1,5 @@
-use Rattle.std.proofs.Common.{◌≡◌, ◌++◌, ◌∷◌, [], List, ℕ, Vec, None, Result, Ok, Err, OnErr, length, refl, ap, subst, sym}
+use Rattle.std.proofs.Common.{◌≡◌, ◌++◌, ◌∷◌, [], List, ℕ, Vec, None, Result, Ok, Err, OnErr, length, refl, ap}
+use Rattle.std.proofs.Common.{sym}
 use Rattle.std.proofs.Common.{◌∙◌, rules}
 use Rattle.std.specs.Vec.{vec_len}
 use Rattle.std.proofs.lemmas.List.{length-map, map-append}
@@ -25,26 +26,21 @@ numbered : {A : Type 0} (plans all : List EarlierPlan) (entries now : List (Vec 
     → place_of plan.name (plan_names plans) ≡ None → AreNumbered (plan_names plans) entries
     → AreNumbered (plan_names all) now
 numbered {A = A} plans all entries now plan key number more is at put new h =
-    let names : plan_names all ≡ plan_names plans ++ plan.name ∷ [] =
-    ap plan_names more ∙ map-append (λ (p : EarlierPlan). p.name) plans (plan ∷ []) in
-    let last : number ≡ length (plan_names plans) = at ∙ sym (length-map plans (λ (p : EarlierPlan). p.name)) in
-    subst (λ (es : List (Vec ℕ A × ℕ)). AreNumbered (plan_names all) es)
-    (sym (put
-    ∙ ap (λ (n : ℕ). insert_entry (λ (x y : Vec ℕ A). slice_cmp nat_cmp x.items y.items) entries key n) last))
-    (subst (λ (l : List (List ℕ)). AreNumbered l
-    (insert_entry (λ (x y : Vec ℕ A). slice_cmp nat_cmp x.items y.items) entries key (length (plan_names plans))))
-    (sym names)
-    (numbered-more (plan_names plans) entries plan.name key is new h))
+    let names =
+    ap plan_names more ∙ map-append (λ p. p.name) plans (plan ∷ []) in
+    let last = at ∙ sym (length-map plans (λ p. p.name)) in
+    rw (put
+    ∙ ap (insert_entry (λ (x y : Vec ℕ A). slice_cmp nat_cmp x.items y.items) entries key) last)
+    (rw (← names) at (numbered-more _ entries plan.name key is new h))
 
 pub invariant_of-self-in-Ok-insert : goal.invariant_of-self-in-Ok-insert
 invariant_of-self-in-Ok-insert c =
     let long : vec_len c.self.inside.plans ≡ length c.self.inside.plans.items = search rules in
     numbered c.self.inside.plans.items c.push.new.self.items c.self.inside.numbers.entries c.insert.new.self.entries
     c.args.plan c.in_ok-key.key c.in-Ok.number c.in-Ok-push.ensures.items
-    (c.in_ok-key.ensures ∙ ap (λ (l : List ℕ). str_to_ascii_lowercase l) c.as_slice.ensures)
-    (c.in-Ok.ensures.1 ∙ c.len.ensures ∙ long) c.in-Ok-insert.ensures.entries
-    (subst (λ (plans : List EarlierPlan). place_of c.args.plan.name (plan_names plans) ≡ None) (sym c.self.view_is)
-    c.requires)
+    (cc (c.in_ok-key.ensures, c.as_slice.ensures))
+    (cc (c.in-Ok.ensures.1, c.len.ensures)) c.in-Ok-insert.ensures.entries
+    (rw c.self.view_is c.requires)
     c.self.invariant
 
 pub returns-in_err-key-clause-unchanged : goal.returns-in_err-key-clause-unchanged

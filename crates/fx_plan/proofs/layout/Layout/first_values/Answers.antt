@@ -1,5 +1,4 @@
 use Rattle.std.proofs.Common.{◌∙◌}
-use Rattle.std.proofs.Common.{refl}
 use Rattle.fx_plan.proofs.Fitting.{values_fit}
 use Rattle.fx_plan.proofs.layout.Layout.first_values.Goals as goal
 
@@ -11,7 +10,7 @@ returns-clause-values c =
       c.as_slice-derived.ensures,
       c.as_slice-recodes.ensures,
       c.shape-shape.ensures.shape,
-    ) refl
+    )
 
 pub returns-clause-fit : goal.returns-clause-fit
 returns-clause-fit c =

@@ -1,21 +1,14 @@
-use Rattle.std.proofs.Common.{◌≡◌, map}
-use Rattle.std.proofs.Common.{subst, rules}
-use Rattle.std.specs.Prelude.{IfOk}
+use Rattle.std.proofs.Common.{map}
+use Rattle.std.proofs.Common.{rules}
 use Rattle.fx_plan.specs.Draws.{generator}
-use Rattle.fx_plan.specs.Products.{picked, replicated}
-use Rattle.fx_derived.specs.Tables.{TableView}
 use Rattle.fx_plan.proofs.Wholes.{shuffled_parts}
 use Rattle.fx_plan.proofs.layout.Layout.shuffled.Goals as goal
 
 pub returns-clause-plan : goal.returns-clause-plan
 returns-clause-plan c =
-    let inner = c.args.self.now.inner.now in
-    let outer = c.args.self.now.outer.now in
     let h = rw (c.len-each.ensures, c.seed_from_u64-rng.ensures) at c.in_ok-order.ensures.shuffled in
-    subst (λ (t : TableView). IfOk c.ordered.result (λ x. picked x.order.items (replicated x.runs inner outer) ≡ t))
-    (shuffled_parts c.args.self.now.factors.now c.args.self.now.runs.now c.args.self.now.output.now
-    inner outer (generator c.args.seed) c.shuffled_in_blocks.new.rng
+    rw (shuffled_parts c.args.self.now.factors.now c.args.self.now.runs.now c.args.self.now.output.now
+    c.args.self.now.inner.now c.args.self.now.outer.now (generator c.args.seed) c.shuffled_in_blocks.new.rng
     c.args.too c.args.order.items c.in_ok-order.order.items
     (map (λ v. v.items) c.args.values.items) (map (λ v. v.items) c.shuffled_values-values.result.items)
-    (rw c.as_slice.ensures.value at h) (search rules))
-    c.ordered.ensures.plan
+    (rw c.as_slice.ensures.value at h) (search rules)) at c.ordered.ensures.plan

@@ -1,7 +1,5 @@
 use Rattle.std.proofs.Common.{◌<◌, ◌+◌, [], length, ap, ◌∙◌, arith}
-use Rattle.fx_designs.specs.Problems.{Problem}
 use Rattle.fx_laws.proofs.Tables.{is_order-field}
-use Rattle.fx_vectors.specs.declared.question.Question.{Question}
 use Rattle.fx_vectors.specs.Question.{problem_of}
 use Rattle.fx_search.proofs.NoneAtAll.{none_at_all}
 use Rattle.fx_search.proofs.Whole.{whole_closed, closed_plain}
@@ -9,16 +7,16 @@ use Rattle.fx_search.proofs.piece_walk.Walk+Unranked.closed.Goals as goal
 
 pub returns-clause-right : goal.returns-clause-right
 returns-clause-right c =
-    let question : Question = c.args.self.now.question.now in
-    let p : Problem = problem_of question in
+    let question = c.args.self.now.question.now in
+    let p = problem_of question in
     let f = is_order-field question.shape.q c.requires.valid.shaped.order in
-    let some : 0 < question.shape.s + question.shape.t = omega (arith, c.requires.valid.shaped.some_factors) in
+    let some : 0 < question.shape.s + question.shape.t = omega arith in
     let none =
     closed_plain p f some c.args.self.now.limit c.args.self.now.marks [] [] c.requires.closed c.requires.plain in
     let r = whole_closed p f some c.args.self.now.limit c.args.self.now.marks [] [] c.requires.closed in
     let same = c.take_marks-marks.ensures.marks in
     let count = c.len-nodes.ensures ∙ ap length same in (
-      (none, count ∙ r.0, same ∙ r.1, omega (arith, count, c.requires.closed.fits)),
+      (none, cc, cc, omega arith),
       none_at_all question
           c.requires.valid none,
     )

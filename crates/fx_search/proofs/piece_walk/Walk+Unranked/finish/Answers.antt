@@ -1,7 +1,5 @@
-use Rattle.std.proofs.Common.{◌<◌, ◌+◌, ℕ, sym, arith}
+use Rattle.std.proofs.Common.{◌<◌, ◌+◌, sym, arith}
 use native.Mathlib.Nat.{sub-zero}
-use Rattle.fx_designs.specs.Problems.{Problem}
-use Rattle.fx_vectors.specs.declared.question.Question.{Question}
 use Rattle.fx_vectors.specs.Question.{problem_of}
 use Rattle.fx_search.proofs.Valid.{field_of}
 use Rattle.fx_search.proofs.Whole.{whole_spent, carried-plain}
@@ -15,12 +13,12 @@ walk_below-requires-clause-inner c = c.requires.start.paused.inner
 
 pub returns-in-Spent : goal.returns-in-Spent
 returns-in-Spent c =
-    let question : Question = c.args.self.now.question.now in
-    let p : Problem = problem_of question in
-    let limit : ℕ = c.args.self.now.limit in
+    let question = c.args.self.now.question.now in
+    let p = problem_of question in
+    let limit = c.args.self.now.limit in
     let start = c.requires.start in
     let valid = start.paused.at.valid in
     let f = field_of question valid in
-    let some : 0 < question.shape.s + question.shape.t = omega (arith, valid.shaped.some_factors) in
+    let some : 0 < question.shape.s + question.shape.t = omega arith in
     let h = rw (start.rows, start.marks, c.in-Spent.is, sub-zero) at c.in_ok-walk_below.ensures.ended.ends in
     ((whole_spent p f some limit h, sym (carried-plain p f some limit c.requires.plain), tt), tt)

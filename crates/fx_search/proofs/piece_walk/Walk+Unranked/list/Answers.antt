@@ -1,36 +1,32 @@
-use Rattle.std.proofs.Common.{◌≡◌, ◌<◌, [], ℕ, List, length, refl, sym, ap, subst, ◌∙◌, true≢false}
-use Rattle.fx_vectors.specs.declared.question.Question.{Question}
-use Rattle.fx_vectors.specs.Question.{problem_of}
-use Rattle.fx_search.specs.Walks.{IsNoCanonicalBelow, standing_without_best}
-use Rattle.fx_search.specs.declared.unranked.Unranked.{Unranked}
-use Rattle.fx_search.specs.declared.walk.Walk.{Walk}
+use Rattle.std.proofs.Common.{refl, sym, true≢false}
+use Rattle.fx_search.specs.Walks.{standing_without_best}
 use Rattle.fx_search.proofs.PieceSteps.{ahead-leave}
 use Rattle.fx_search.proofs.Places.{paused-left, some-of}
 use Rattle.fx_search.proofs.piece_walk.Walk+Unranked.list.Goals as goal
 
 pub returns-then-is_empty-clause-last : goal.returns-then-is_empty-clause-last
 returns-then-is_empty-clause-last c is =
-    let v : Walk Unranked = c.loop-measure.self in
-    let start : v.prefix.rows ≡ [] = c.if-is_empty.ensures.0 refl in
-    (start, subst (λ (l : List ℕ). IsNoCanonicalBelow (problem_of v.question.now) l v.bound) start c.in-None.ensures)
+    let v = c.loop-measure.self in
+    let start = c.if-is_empty.ensures.0 refl in
+    (start, rw start at c.in-None.ensures)
 
 pub loop-measure-preserved : goal.loop-measure-preserved
 loop-measure-preserved c =
-    let v : Walk Unranked = c.loop-measure.self in
+    let v = c.loop-measure.self in
     let i = c.loop-measure.invariant in
     let left = c.leave.ensures in
-    let some : 0 < length v.prefix.rows = some-of v.prefix.rows (λ e. true≢false (sym (c.if-is_empty.ensures.1 e))) in
+    let some = some-of v.prefix.rows (λ e. true≢false (sym (c.if-is_empty.ensures.1 e))) in
     let placed = i.ahead.placed in
     let paused =
     paused-left standing_without_best v.question.now v c.leave.new.self refl placed.paused some left.at left.rows
     left.bound.1 left.same.1 in
     record {
-      question = left.same.0 ∙ i.question;
-      limit = left.same.1 ∙ i.limit;
-      marks = left.same.2 ∙ i.marks;
+      question = cc;
+      limit = cc;
+      marks = cc;
       ahead = ahead-leave v c.leave.new.self c.loop-measure.round.pieces c.loop-measure.round.after i.ahead
           c.in-None.ensures some
-          (record { paused = paused; plain = ap (λ (z : Question). z.least) left.at.question_is ∙ placed.plain })
+          (record { paused = paused; plain = cc })
           left.same.0 left.same.1 left.same.2 left.rows left.bound.0;
       most = i.most;
       own = i.own;

@@ -1,26 +1,20 @@
 use Rattle.std.proofs.Common.{Bool, ◌≡◌, ℕ, suc, ◌<◌, ◌≤◌, ◌+◌, ◌-◌, ◌^◌, true, false, length, List, [], ◌∷◌, ◌++◌}
-use Rattle.std.proofs.Common.{arith, refl, sym, ap, ◌∙◌, subst, length-append, append-nil, inl, inr, slice_index_or}
-use Rattle.fx_designs.specs.Problems.{Problem}
+use Rattle.std.proofs.Common.{arith, refl, sym, ap, ◌∙◌, length-append, append-nil, inl, inr, slice_index_or}
 use Rattle.fx_designs.specs.Nodes.{parent}
 use Rattle.fx_laws.specs.Trees.{children_of}
-use Rattle.fx_laws.specs.Walks.{under}
 use Rattle.fx_laws.proofs.Candidates.{parent-push}
 use Rattle.fx_vectors.specs.declared.question.Question.{Question}
-use Rattle.fx_vectors.specs.declared.shape.Shape.{Shape}
 use Rattle.fx_vectors.specs.Shape.{dimensions_of}
 use Rattle.fx_vectors.specs.Question.{IsValid, problem_of, requirement_of}
 use Rattle.fx_tree.specs.declared.front.Front.{Front}
-use Rattle.fx_tree.specs.Following.{front_of, follows, rank_with}
-use Rattle.fx_tree.proofs.Walks.{follows-extends, front_at}
+use Rattle.fx_tree.specs.Following.{front_of, follows}
+use Rattle.fx_tree.proofs.Walks.{follows-extends}
 use Rattle.fx_tree.proofs.Nexts.{front-next}
 use Rattle.fx_tree.specs.Ranked.{is_counted}
 use Rattle.fx_tree.specs.Search.{search_tree, search_mark, ranked, IsBestAt}
 use Rattle.fx_tree.proofs.Branches.{start_best, end_best, enter_best, leave_best}
 use Rattle.fx_search.specs.Pruning.{full_length}
-use Rattle.fx_search.specs.Ends.{Ends}
-use Rattle.fx_search.specs.Walks.{IsAt, IsFrontOf, LeftFrom}
-use Rattle.fx_search.specs.declared.walk.Walk.{Walk}
-use Rattle.fx_search.specs.declared.walk.End.TheVariants.{Closed}
+use Rattle.fx_search.specs.Walks.{IsFrontOf, LeftFrom}
 use Rattle.fx_search.proofs.Lots.{whole-end}
 use Rattle.fx_search.proofs.Steps.{full, below_end, below_closed, left-init, left-skip, left-next, left-low}
 use Rattle.fx_search.proofs.Steps.{inside_child, over_child}
@@ -34,7 +28,7 @@ follow_at : (question : Question) → IsValid question → (p : List ℕ) (front
     → follows (dimensions_of question.shape) (requirement_of question.demands) front x
     ≡ (search_tree (problem_of question)).canonical (p ++ x ∷ [])
 follow_at question valid p front x can is =
-    follows-extends (dimensions_of question.shape) (field_of question valid) (requirement_of question.demands) p front x
+    follows-extends _ (field_of question valid) _ p front x
     can is
 
 -- the child by the row below the bound of what is left is the next, where the row follows
@@ -70,7 +64,7 @@ walk_child-returns-then-cut-clause-ended g t c = record {
   shape = c.requires.at.shape;
   back = tt;
   best = tt;
-  ends = sym c.cut.ensures.stopped ∙ c.if-cut.true;
+  ends = cc (c.cut.ensures.stopped, c.if-cut.true);
 }
 
 pub walk_child-returns-then-len-self-clause-cutter : goal.walk_child-returns-then-len-self-clause-cutter
@@ -78,15 +72,15 @@ walk_child-returns-then-len-self-clause-cutter g t c = c.cut.ensures.step
 
 pub walk_child-returns-then-len-self-clause-ended : goal.walk_child-returns-then-len-self-clause-ended
 walk_child-returns-then-len-self-clause-ended g t c =
-    let w : Walk g.row.I.Denot = c.args.self.now in
-    let p : Problem = problem_of w.question.now in
+    let w = c.args.self.now in
+    let p = problem_of w.question.now in
     let d : List ℕ = w.prefix.rows ++ c.args.row ∷ [] in
     record {
       shape = c.requires.at.shape;
       back = tt;
       best = tt;
       ends = full (search_tree p) (search_mark p) w.limit false w.prefix.rows (full_length p - length d) w.marks w.marks
-          w.prefix.rows d (sym c.len.ensures ∙ c.if-len-self.true);
+          w.prefix.rows d (cc (c.len.ensures, c.if-len-self.true));
     }
 
 pub walk_child-returns-in_err-end-clause-cutter : goal.walk_child-returns-in_err-end-clause-cutter
@@ -97,10 +91,10 @@ walk_child-returns-in-Some-clause-cutter g t c = c.cut.ensures.step
 
 pub walk_child-returns-in-Some-clause-ended : goal.walk_child-returns-in-Some-clause-ended
 walk_child-returns-in-Some-clause-ended g t c =
-    let w : Walk g.row.I.Denot = c.args.self.now in
-    visited-over g.I.Incumbent.standing w.question.now w.prefix.rows (w.prefix.rows ++ c.args.row ∷ []) w.limit
-    (g.C.Cutter.stopped c.cut.new.self) c.in-Some.end w.marks c.visit.new.self
-    (omega (arith, c.requires.fits, c.len.ensures, c.if-len-self.false))
+    let w = c.args.self.now in
+    visited-over g.I.Incumbent.standing w.question.now w.prefix.rows _ w.limit
+    _ c.in-Some.end w.marks c.visit.new.self
+    (omega arith)
     (rw c.in-Some.is at c.in_ok-end.ensures.visited)
 
 pub walk_child-next_front-next-requires : goal.walk_child-next_front-next-requires
@@ -114,30 +108,31 @@ walk_child-next_front-next-requires g t c =
 
 pub walk_child-walk_below-requires : goal.walk_child-walk_below-requires
 walk_child-walk_below-requires g t c κs within =
-    let w : Walk g.row.I.Denot = c.args.self.now in
-    let v : Walk g.row.I.Denot = c.visit.new.self in
-    let question : Question = w.question.now in
-    let p : Problem = problem_of question in
-    let q : List ℕ = w.prefix.rows in
+    let w = c.args.self.now in
+    let v = c.visit.new.self in
+    let question = w.question.now in
+    let p = problem_of question in
+    let q = w.prefix.rows in
     let d : List ℕ = q ++ c.args.row ∷ [] in
-    let front : Front = c.next_front-next.result in
+    let front = c.next_front-next.result in
     let h = rw c.in-None.is at c.in_ok-end.ensures.visited in
-    let grown : length d ≡ length q + 1 = length-append q (c.args.row ∷ []) in
-    let before : (search_tree p).canonical q ≡ true =
-    (law_of question c.requires.at.valid).canonical q c.args.row c.requires.child.canonical in
-    let rank : front.rank ≤ question.shape.m =
-    subst (λ (z : Shape). front.rank ≤ z.m) c.requires.at.candidates c.next_front-next.ensures.rank in
+    let grown = length-append q (c.args.row ∷ []) in
+    let rank =
+    rw c.requires.at.candidates at c.next_front-next.ensures.rank in
     let front_is : front ≡ front_of p.dimensions d =
-    c.next_front-next.ensures.front ∙ ap
-    (λ (z : Shape). front_at (c.args.front.count + 1) (rank_with (dimensions_of z) c.args.front.rank c.args.row)
-    c.args.row) c.requires.at.candidates
-    ∙ front-next p.dimensions (field_of question c.requires.at.valid) p.requirement q c.args.row c.args.front before
-    c.requires.child.below c.requires.front.front_is in (
-      let rows : length v.prefix.rows ≡ length d = ap length h.rows in
+    cc (
+      c.next_front-next.ensures.front,
+      c.requires.at.candidates,
+      front-next p.dimensions
+          (field_of question c.requires.at.valid) p.requirement q c.args.row c.args.front
+          ((law_of question c.requires.at.valid).canonical q c.args.row c.requires.child.canonical)
+          c.requires.child.below c.requires.front.front_is,
+    ) in (
+      let rows = ap length h.rows in
           let size : full_length (problem_of v.question.now) ≡ full_length p =
-          ap (λ z. full_length (problem_of z)) h.at.question_is in
+          cc in
           let part = c.requires.child.part in
-          omega (arith, rows, size, grown, part),
+          omega arith,
       (
         within.0,
         (
@@ -150,18 +145,10 @@ walk_child-walk_below-requires g t c κs within =
               (
                 rw (h.at.question_is, h.rows) (record { front_is = front_is; rank = rank }),
                 (
-                  omega (
-                    arith,
-                    c.visit.ensures.limit,
-                    ap length h.marks,
-                    length-append w.marks (search_mark p d ∷ []),
-                    c.requires.fits,
-                    c.len.ensures,
-                    c.if-len-self.false,
-                  ),
+                  omega (arith, ap length h.marks, length-append w.marks (search_mark p d ∷ [])),
                   (
                     rw (h.at.question_is, h.rows) h.best,
-                    rw (h.at.question_is, h.rows) (λ least. omega (arith, grown, c.requires.inside least)),
+                    rw (h.at.question_is, h.rows) (λ least. omega (arith, c.requires.inside least)),
                   ),
                 ),
               ),
@@ -177,14 +164,13 @@ walk_child-returns-in_err-end-in-None-clause-cutter g t c =
 
 pub walk_child-leave-requires : goal.walk_child-leave-requires
 walk_child-leave-requires g t c =
-    let w : Walk g.row.I.Denot = c.args.self.now in
-    let v : Walk g.row.I.Denot = c.visit.new.self in
-    let u : Walk g.row.I.Denot = c.walk_below.new.self in
+    let w = c.args.self.now in
+    let v = c.visit.new.self in
     let d : List ℕ = w.prefix.rows ++ c.args.row ∷ [] in
     let o = rw c.in-None.is at c.in_ok-end.ensures.visited in
     let h = rw (o.at.question_is, o.rows, c.visit.ensures.limit, c.in-Closed.is) at c.in_ok-end-in-None.ensures.ended in
     record {
-      at = at-own g.I.Incumbent.standing w.question.now u h.back;
+      at = at-own g.I.Incumbent.standing w.question.now c.walk_below.new.self h.back;
       some = omega (arith, ap length h.ends.back, length-append w.prefix.rows (c.args.row ∷ []));
     }
 
@@ -194,28 +180,25 @@ walk_child-returns-in-Closed-clause-cutter g t c =
 
 pub walk_child-returns-in-Closed-clause-ended : goal.walk_child-returns-in-Closed-clause-ended
 walk_child-returns-in-Closed-clause-ended g t c =
-    let w : Walk g.row.I.Denot = c.args.self.now in
-    let v : Walk g.row.I.Denot = c.visit.new.self in
-    let u : Walk g.row.I.Denot = c.walk_below.new.self in
-    let x : Walk g.row.I.Denot = c.leave.new.self in
-    let question : Question = w.question.now in
-    let p : Problem = problem_of question in
-    let q : List ℕ = w.prefix.rows in
+    let w = c.args.self.now in
+    let v = c.visit.new.self in
+    let u = c.walk_below.new.self in
+    let x = c.leave.new.self in
+    let p = problem_of w.question.now in
+    let q = w.prefix.rows in
     let d : List ℕ = q ++ c.args.row ∷ [] in
     let o = rw c.in-None.is at c.in_ok-end.ensures.visited in
     let h = rw (o.at.question_is, o.rows, c.visit.ensures.limit, c.in-Closed.is) at c.in_ok-end-in-None.ensures.ended in
     let left = c.leave.ensures in
-    let at = subst (λ z. IsAt g.I.Incumbent.standing z x) h.back.question_is left.at in
-    let back : x.prefix.rows ≡ q = left.rows ∙ ap parent h.ends.back ∙ parent-push q c.args.row in
+    let at = rw h.back.question_is at left.at in
+    let back = left.rows ∙ ap parent h.ends.back ∙ parent-push q c.args.row in
     record {
       shape = at.shape;
       back = at;
       best = rw left.best h.best;
-      ends = below_closed (search_tree p) (search_mark p) w.limit false q (search_mark p d) (full_length p - length d)
+      ends = below_closed _ _ w.limit false q _ _
           w.marks v.marks x.marks u.prefix.rows d refl o.expanded o.part o.marks x.prefix.rows back
-          (subst (λ ms. Ends (search_tree p) (search_mark p) w.limit false
-          (under (search_tree p) (full_length p - length d) d) d Closed v.marks ms u.prefix.rows) (sym left.same.2)
-          h.ends);
+          (rw (← left.same.2) at h.ends);
     }
 
 pub walk_child-returns-in_default-clause-cutter : goal.walk_child-returns-in_default-clause-cutter
@@ -224,22 +207,20 @@ walk_child-returns-in_default-clause-cutter g t c =
 
 pub walk_child-returns-in_default-clause-ended : goal.walk_child-returns-in_default-clause-ended
 walk_child-returns-in_default-clause-ended g t c =
-    let w : Walk g.row.I.Denot = c.args.self.now in
-    let v : Walk g.row.I.Denot = c.visit.new.self in
-    let u : Walk g.row.I.Denot = c.walk_below.new.self in
-    let question : Question = w.question.now in
-    let p : Problem = problem_of question in
-    let q : List ℕ = w.prefix.rows in
+    let w = c.args.self.now in
+    let v = c.visit.new.self in
+    let u = c.walk_below.new.self in
+    let p = problem_of w.question.now in
+    let q = w.prefix.rows in
     let d : List ℕ = q ++ c.args.row ∷ [] in
     let end = c.in_ok-end-in-None.end in
-    let stopped : Bool = g.C.Cutter.stopped c.walk_below.new.cutter in
     let o = rw c.in-None.is at c.in_ok-end.ensures.visited in
     let h = rw (o.at.question_is, o.rows, c.visit.ensures.limit) at c.in_ok-end-in-None.ensures.ended in
     record {
       shape = h.shape;
       back = else-closed end _ c.in_default.not-Closed;
       best = else-closed end _ c.in_default.not-Closed;
-      ends = below_end (search_tree p) (search_mark p) w.limit stopped q (search_mark p d) (full_length p - length d)
+      ends = below_end _ _ w.limit (g.C.Cutter.stopped c.walk_below.new.cutter) q _ _
           w.marks v.marks u.marks u.prefix.rows d refl o.expanded o.part o.marks end c.in_default.not-Closed h.ends;
     }
 
@@ -255,8 +236,7 @@ walk_below-row_bound-row-requires g t c =
 
 pub walk_below-loop-row-init : goal.walk_below-loop-row-init
 walk_below-loop-row-init g t c =
-    let w : Walk g.row.I.Denot = c.args.self.now in
-    let p : Problem = problem_of w.question.now in
+    let w = c.args.self.now in
     record {
       at = c.requires.at;
       question = refl;
@@ -271,7 +251,7 @@ walk_below-loop-row-init g t c =
       none = refl;
       fits = c.requires.fits;
       best = record {
-        first = λ e. start_best (ranked p) (ranked_of w.question.now c.requires.at.valid) w.prefix.rows
+        first = λ e. start_best _ (ranked_of w.question.now c.requires.at.valid) w.prefix.rows
             c.requires.inner.part _ (c.requires.best.first e);
       };
     }
@@ -282,34 +262,32 @@ walk_below-may_follow_where-requires g t c = record {
   shape = c.requires.at.candidates;
   rank = c.requires.front.rank;
   falls = c.falls-falls.ensures;
-  below = omega (arith, c.loop-row.auto.row, c.loop-row-test.true, c.row_bound-row.ensures.most);
+  below = omega arith;
 }
 
 pub walk_below-walk_child-requires : goal.walk_below-walk_child-requires
 walk_below-walk_child-requires g t c κs within =
-    let w : Walk g.row.I.Denot = c.args.self.now in
-    let v : Walk g.row.I.Denot = c.loop-row.self in
-    let question : Question = w.question.now in
-    let p : Problem = problem_of question in
-    let q : List ℕ = w.prefix.rows in
+    let w = c.args.self.now in
+    let v = c.loop-row.self in
+    let question = w.question.now in
+    let p = problem_of question in
+    let q = w.prefix.rows in
     let i = c.loop-row.invariant in
-    let r : ℕ = c.loop-row.row - 1 in
+    let r = c.loop-row.row - 1 in
     let next =
     next-child question c.requires.at.valid q c.args.front i.done c.loop-row.row _ c.requires.inner.canonical
-    c.requires.front (omega (arith, c.loop-row-test.true)) c.may_follow_where.ensures c.if-may_follow_where.true i.left in
+    c.requires.front (omega arith) c.may_follow_where.ensures c.if-may_follow_where.true i.left in
     let below : r < (search_tree p).rows =
-    omega (arith, c.loop-row.auto.row, c.loop-row-test.true, c.row_bound-row.ensures.most) in
+    omega arith in
     let best : IsBestAt p (is_counted (ranked p) (q ++ r ∷ [])) (g.I.Incumbent.standing v.incumbent).best =
-    subst (λ n. IsBestAt p (is_counted (ranked p) (q ++ n ∷ [])) (g.I.Incumbent.standing v.incumbent).best)
-    (sym next.1)
-    (record {
-      first = λ e. enter_best (ranked p) (ranked_of question c.requires.at.valid) q c.requires.inner.part
+    rw next.1 (record {
+      first = λ e. enter_best _ (ranked_of question c.requires.at.valid) q c.requires.inner.part
           (inl (c.requires.inside e)) i.done next.0 _ (i.best.first e);
     }) in (
-      let rows : length v.prefix.rows ≡ length q = ap length i.prefix in
+      let rows = ap length i.prefix in
           let size : full_length (problem_of v.question.now) ≡ full_length p =
-          ap (λ z. full_length (problem_of z)) i.at.question_is in
-          omega (arith, rows, size),
+          cc in
+          omega arith,
       (
         within.0,
         (
@@ -322,7 +300,7 @@ walk_below-walk_child-requires g t c κs within =
               (
                 rw (i.at.question_is, i.prefix) c.requires.front,
                 (
-                  omega (arith, i.limit, i.fits),
+                  omega arith,
                   (
                     rw (i.at.question_is, i.prefix) best,
                     rw (i.at.question_is, i.prefix) (λ least. omega (arith, c.requires.inside least)),
@@ -345,51 +323,49 @@ walk_below-returns-in_default-clause-cutter g t c =
 
 pub walk_below-returns-in_default-clause-ended : goal.walk_below-returns-in_default-clause-ended
 walk_below-returns-in_default-clause-ended g t c =
-    let w : Walk g.row.I.Denot = c.args.self.now in
-    let v : Walk g.row.I.Denot = c.loop-row.self in
-    let u : Walk g.row.I.Denot = c.walk_child.new.self in
-    let question : Question = w.question.now in
-    let p : Problem = problem_of question in
-    let q : List ℕ = w.prefix.rows in
+    let w = c.args.self.now in
+    let v = c.loop-row.self in
+    let u = c.walk_child.new.self in
+    let question = w.question.now in
+    let p = problem_of question in
+    let q = w.prefix.rows in
     let i = c.loop-row.invariant in
-    let r : ℕ = c.loop-row.row - 1 in
     let next =
     next-child question c.requires.at.valid q c.args.front i.done c.loop-row.row _ c.requires.inner.canonical
-    c.requires.front (omega (arith, c.loop-row-test.true)) c.may_follow_where.ensures c.if-may_follow_where.true i.left in
-    let stopped : Bool = g.C.Cutter.stopped c.walk_child.new.cutter in
+    c.requires.front (omega arith) c.may_follow_where.ensures c.if-may_follow_where.true i.left in
     let end = c.in_ok-end.end in
     let h = rw (i.at.question_is, i.prefix, i.limit) at c.in_ok-end.ensures.ended in
     record {
       shape = h.shape;
       back = else-closed end _ c.in_default.not-Closed;
       best = else-closed end _ c.in_default.not-Closed;
-      ends = inside_child (search_tree p) (law_of question c.requires.at.valid) q (search_mark p) w.limit i.done r
-          stopped w.marks v.marks u.marks u.prefix.rows end c.requires.inner.open_ c.requires.inner.part next.0 next.1
+      ends = inside_child _ (law_of question c.requires.at.valid) q _ w.limit i.done (c.loop-row.row - 1)
+          (g.C.Cutter.stopped c.walk_child.new.cutter) w.marks v.marks u.marks u.prefix.rows end c.requires.inner.open_
+          c.requires.inner.part next.0 next.1
           i.none i.marks c.in_default.not-Closed h.ends;
     }
 
 pub walk_below-loop-row-preserved-in-Closed : goal.walk_below-loop-row-preserved-in-Closed
 walk_below-loop-row-preserved-in-Closed g t c =
-    let w : Walk g.row.I.Denot = c.args.self.now in
-    let v : Walk g.row.I.Denot = c.loop-row.self in
-    let u : Walk g.row.I.Denot = c.walk_child.new.self in
-    let question : Question = w.question.now in
-    let p : Problem = problem_of question in
-    let q : List ℕ = w.prefix.rows in
+    let w = c.args.self.now in
+    let v = c.loop-row.self in
+    let u = c.walk_child.new.self in
+    let question = w.question.now in
+    let p = problem_of question in
+    let q = w.prefix.rows in
     let i = c.loop-row.invariant in
-    let r : ℕ = c.loop-row.row - 1 in
     let next =
     next-child question c.requires.at.valid q c.args.front i.done c.loop-row.row _ c.requires.inner.canonical
-    c.requires.front (omega (arith, c.loop-row-test.true)) c.may_follow_where.ensures c.if-may_follow_where.true i.left in
+    c.requires.front (omega arith) c.may_follow_where.ensures c.if-may_follow_where.true i.left in
     let h = rw (i.at.question_is, i.prefix, i.limit, c.in-Closed.is) at c.in_ok-end.ensures.ended in
     let best = rw next.1 at h.best in
     let step =
-    over_child (search_tree p) (law_of question c.requires.at.valid) q (search_mark p) w.limit i.done r false w.marks
+    over_child _ (law_of question c.requires.at.valid) q _ w.limit i.done (c.loop-row.row - 1) false w.marks
     v.marks _ _ next.0 next.1 i.none i.marks h.ends in
     record {
       at = h.back;
-      question = c.walk_child.ensures.question ∙ i.question;
-      limit = c.walk_child.ensures.limit ∙ i.limit;
+      question = cc c.walk_child.ensures.question;
+      limit = cc c.walk_child.ensures.limit;
       cutter = g.met.C.Cutter.goes_on c.args.cutter.now c.loop-row.cutter _ i.cutter c.in_ok-end.ensures.cutter;
       prefix = h.ends.back;
       done = i.done + 1;
@@ -398,7 +374,7 @@ walk_below-loop-row-preserved-in-Closed g t c =
       none = step.0;
       fits = step.2;
       best = record {
-        first = λ e. leave_best (ranked p) (ranked_of question c.requires.at.valid) q c.requires.inner.part
+        first = λ e. leave_best _ (ranked_of question c.requires.at.valid) q c.requires.inner.part
             (inl (c.requires.inside e)) i.done next.0 _ (best.first e);
       };
     }
@@ -408,10 +384,10 @@ walk_below-returns-clause-cutter g t c = c.loop-row.invariant.cutter
 
 pub walk_below-returns-clause-ended : goal.walk_below-returns-clause-ended
 walk_below-returns-clause-ended g t c =
-    let w : Walk g.row.I.Denot = c.args.self.now in
-    let question : Question = w.question.now in
-    let p : Problem = problem_of question in
-    let q : List ℕ = w.prefix.rows in
+    let w = c.args.self.now in
+    let question = w.question.now in
+    let p = problem_of question in
+    let q = w.prefix.rows in
     let i = c.loop-row.invariant in
     let past : length (children_of (search_tree p) q) ≤ i.done = left-low (search_tree p) q i.done c.loop-row.row
     (λ x low. sym
@@ -421,7 +397,7 @@ walk_below-returns-clause-ended g t c =
       shape = i.at.shape;
       back = i.at;
       best = record {
-        first = λ e. end_best (ranked p) (ranked_of question c.requires.at.valid) q c.requires.inner.part i.done _ past
+        first = λ e. end_best _ (ranked_of question c.requires.at.valid) q c.requires.inner.part i.done _ past
             (i.best.first e);
       };
       ends = whole-end p (law_of question c.requires.at.valid) q c.requires.inner.open_ c.requires.inner.part w.limit
@@ -430,13 +406,13 @@ walk_below-returns-clause-ended g t c =
 
 pub walk_below-loop-row-preserved : goal.walk_below-loop-row-preserved
 walk_below-loop-row-preserved g t c =
-    let w : Walk g.row.I.Denot = c.args.self.now in
-    let question : Question = w.question.now in
-    let p : Problem = problem_of question in
-    let q : List ℕ = w.prefix.rows in
-    let r : ℕ = c.loop-row.row - 1 in
+    let w = c.args.self.now in
+    let question = w.question.now in
+    let p = problem_of question in
+    let q = w.prefix.rows in
+    let r = c.loop-row.row - 1 in
     let up : c.loop-row.row ≡ suc r = omega (arith, c.loop-row-test.true) in
-    let fails : (search_tree p).canonical (q ++ r ∷ []) ≡ false =
+    let fails =
     sym (follow_at question c.requires.at.valid q c.args.front r c.requires.inner.canonical c.requires.front.front_is) ∙
     sym c.may_follow_where.ensures ∙ c.if-may_follow_where.false in
     let i = c.loop-row.invariant in

@@ -11,20 +11,18 @@ use Rattle.fx_table_check.proofs.effects.Effects.clear_sums.Goals.{then-is_clear
 pub loop-sum-preserved : goal.loop-sum-preserved
 loop-sum-preserved c = record {
   few = elim c.if-is_clear.branch [
-    | then-is_clear w ↦ omega (arith, w.count-is, c.loop-sum.invariant.few)
-    | else-is_clear w ↦ omega (arith, w.count-is, c.loop-sum.invariant.few)
+    | then-is_clear w ↦ omega arith
+    | else-is_clear w ↦ omega arith
   ];
   are = λ rows h. elim c.if-is_clear.branch [
     | then-is_clear w ↦
-        w.count-is
-        ∙ count-true (λ r. is_clear_sum (strata_of c.args.base) rows (digits c.args.base.q c.args.base.m r))
+        cc (count-true _
         c.loop-sum.sum
-        c.loop-sum.count (c.loop-sum.invariant.are rows h) (sym (c.is_clear.ensures rows h) ∙ w.if-is_clear.true)
+        c.loop-sum.count (c.loop-sum.invariant.are rows h) (sym (c.is_clear.ensures rows h) ∙ w.if-is_clear.true))
     | else-is_clear w ↦
-        w.count-is
-        ∙ count-false (λ r. is_clear_sum (strata_of c.args.base) rows (digits c.args.base.q c.args.base.m r))
+        cc (count-false _
         c.loop-sum.sum
-        c.loop-sum.count (c.loop-sum.invariant.are rows h) (sym (c.is_clear.ensures rows h) ∙ w.if-is_clear.false)
+        c.loop-sum.count (c.loop-sum.invariant.are rows h) (sym (c.is_clear.ensures rows h) ∙ w.if-is_clear.false))
   ];
 }
 
@@ -34,4 +32,4 @@ returns c = λ rows h.
     ∙ ap (λ n. count_by (λ r. is_clear_sum (strata_of c.args.base) rows (digits c.args.base.q c.args.base.m r))
     (range_with_len 0 n))
     (let e : c.loop-sum.sum ≡ c.args.base.q ^ c.args.base.m =
-    omega (arith, c.loop-sum-test.false, c.loop-sum.auto.sum-end, c.power-sum-end.ensures.power) in e)
+    omega arith in e)

@@ -11,18 +11,16 @@ use Rattle.fx_table_check.proofs.effects.Effects.live_sums.Goals.{then-is_live, 
 pub loop-sum-preserved : goal.loop-sum-preserved
 loop-sum-preserved c = record {
   few = elim c.if-is_live.branch [
-    | then-is_live w ↦ omega (arith, w.count-is, c.loop-sum.invariant.few)
-    | else-is_live w ↦ omega (arith, w.count-is, c.loop-sum.invariant.few)
+    | then-is_live w ↦ omega arith
+    | else-is_live w ↦ omega arith
   ];
   are = λ rows h. elim c.if-is_live.branch [
     | then-is_live w ↦
-        w.count-is
-        ∙ count-true (λ r. is_live (strata_of c.args.base) rows (digits c.args.base.q c.args.base.m r)) c.loop-sum.sum
-        c.loop-sum.count (c.loop-sum.invariant.are rows h) (sym (c.is_live.ensures rows h) ∙ w.if-is_live.true)
+        cc (count-true _ c.loop-sum.sum
+        c.loop-sum.count (c.loop-sum.invariant.are rows h) (sym (c.is_live.ensures rows h) ∙ w.if-is_live.true))
     | else-is_live w ↦
-        w.count-is
-        ∙ count-false (λ r. is_live (strata_of c.args.base) rows (digits c.args.base.q c.args.base.m r)) c.loop-sum.sum
-        c.loop-sum.count (c.loop-sum.invariant.are rows h) (sym (c.is_live.ensures rows h) ∙ w.if-is_live.false)
+        cc (count-false _ c.loop-sum.sum
+        c.loop-sum.count (c.loop-sum.invariant.are rows h) (sym (c.is_live.ensures rows h) ∙ w.if-is_live.false))
   ];
 }
 
@@ -32,4 +30,4 @@ returns c = λ rows h.
     ∙ ap (λ n. count_by (λ r. is_live (strata_of c.args.base) rows (digits c.args.base.q c.args.base.m r))
     (range_with_len 0 n))
     (let e : c.loop-sum.sum ≡ c.args.base.q ^ c.args.base.m =
-    omega (arith, c.loop-sum-test.false, c.loop-sum.auto.sum-end, c.power-sum-end.ensures.power) in e)
+    omega arith in e)

@@ -12,21 +12,19 @@ are-few : (size n : ℕ) (zeros : List ℕ) → size ≤ n → length zeros ≡ 
     → AreFew size zeros
 are-few size n zeros low len are = record {
   len = omega arith;
-  few = λ x below. (let e = are x (omega arith) in omega arith);
+  few = λ x below. (omega (arith, are x (omega arith)));
 }
 
 pub returns-clause-capped : goal.returns-clause-capped
 returns-clause-capped c = record {
   none = record {
-    len = omega (arith, length-set c.zeros-none.result 0 1, c.zeros-none.ensures.len, c.requires.shaped.runs);
+    len = omega (arith, length-set c.zeros-none.result 0 1);
     few = λ x low. elim (cases_eq x 0) [
       | inl here ↦
-          (let e = get_or-set_at c.zeros-none.result 0 x 1 0 here (omega (arith, c.zeros-none.ensures.len)) in
-          omega arith)
+          (omega (arith, get_or-set_at c.zeros-none.result 0 x 1 0 here (omega arith)))
       | inr other ↦
-          (let e = get_or-set_other c.zeros-none.result 0 x 1 0 (λ e. other e) in
-          let z = c.zeros-none.ensures.zeros x (omega (arith, c.requires.shaped.runs)) in
-          omega arith)
+          (let e = get_or-set_other c.zeros-none.result 0 x 1 0 other in
+          omega (arith, c.zeros-none.ensures.zeros x (omega arith)))
     ];
   };
   ones = are-few _ _ c.zeros.result c.requires.shaped.runs c.zeros.ensures.len c.zeros.ensures.zeros;
@@ -37,16 +35,19 @@ pub returns-clause-counted : goal.returns-clause-counted
 returns-clause-counted c = record {
   none = λ x low. elim (cases_eq x 0) [
     | inl here ↦
-        get_or-set_at c.zeros-none.result 0 x 1 0 here (omega (arith, c.zeros-none.ensures.len))
+        get_or-set_at c.zeros-none.result 0 x 1 0 here (omega arith)
         ∙ subst (λ n. 1 ≡ min 2 (spread c.args.base.q c.args.base.m [] 0 n)) (sym here)
         (zero-start c.args.base.q c.args.base.m)
     | inr other ↦
-        get_or-set_other c.zeros-none.result 0 x 1 0 (λ e. other e)
-        ∙ c.zeros-none.ensures.zeros x (omega (arith, c.requires.shaped.runs))
-        ∙ none-start c.args.base.q c.args.base.m x other
+        cc (
+          get_or-set_other c.zeros-none.result 0 x 1 0 other,
+          c.zeros-none.ensures.zeros x (omega arith),
+          none-start
+              c.args.base.q c.args.base.m x other,
+        )
   ];
-  ones = λ x low. c.zeros.ensures.zeros x (omega (arith, c.requires.shaped.runs))
+  ones = λ x low. c.zeros.ensures.zeros x (omega arith)
       ∙ heavy-start c.args.base.q c.args.base.m 0 x;
-  twos = λ x low. c.zeros-2.ensures.zeros x (omega (arith, c.requires.shaped.runs))
+  twos = λ x low. c.zeros-2.ensures.zeros x (omega arith)
       ∙ heavy-start c.args.base.q c.args.base.m 1 x;
 }

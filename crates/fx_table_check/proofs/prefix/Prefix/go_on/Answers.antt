@@ -1,7 +1,5 @@
 use Rattle.std.proofs.Common.{ℕ, ◌^◌, ◌++◌, ◌∷◌, [], List}
 use Rattle.std.proofs.Common.{sym, ap, ◌∙◌}
-use Rattle.fx_table_check.specs.Prefixes.{PrefixView}
-use Rattle.fx_table_book.specs.declared.base.Base.{Base}
 use Rattle.fx_table_book.specs.Tables.{entry_of}
 use Rattle.fx_table_check.specs.Goals.{claim_in}
 use Rattle.fx_strata.specs.Books.{turns_after}
@@ -15,6 +13,6 @@ returns-in-Branch-clause-turns c =
     let rows : List ℕ = c.args.self.now.rows in
     ap (λ e. turns_after x (rows ++ c.args.row ∷ []) (entry_of e) (pending x.strata rows c.args.row)) c.in-Branch.is
     ∙ entered x.strata rows c.args.row c.power.result
-    (c.power.ensures.power ∙ ap (λ (b : Base). b.q ^ b.m)
-    (c.base-base.ensures.base ∙ ap (λ (v : PrefixView). v.base) c.push.ensures))
-    ∙ ap (λ (v : PrefixView). pending x.strata v.rows c.power.result) (sym c.push.ensures)
+    (c.power.ensures.power ∙ ap (λ b. b.q ^ b.m)
+    (c.base-base.ensures.base ∙ ap (λ v. v.base) c.push.ensures))
+    ∙ ap (λ v. pending x.strata v.rows c.power.result) (sym c.push.ensures)

@@ -1,5 +1,5 @@
 use Rattle.std.proofs.Common.{◌≡◌, ◌≤◌, ◌+◌, ◌^◌, ℕ, List, map}
-use Rattle.std.proofs.Common.{sym, ap, ◌∙◌, arith}
+use Rattle.std.proofs.Common.{◌∙◌, arith}
 use Rattle.std.specs.Prelude.{sum}
 use Rattle.fx_strata.specs.Stages.{later_rows}
 use Rattle.fx_strata.specs.Floors.{new_words}
@@ -17,27 +17,26 @@ added c =
 
 is : (c : After-as_slice) → sum c.as_slice.result.now ≡ least_sum c.missing-missing.result (added c)
 is c =
-    ap (λ (l : List ℕ). sum l) (c.as_slice.ensures.value ∙ c.least_values-least.ensures.least)
-    ∙ sym (least-sum c.missing-missing.result (added c))
+    cc (c.as_slice.ensures.value, c.least_values-least.ensures.least, least-sum c.missing-missing.result (added c))
 
 fits : (c : After-as_slice) → sum c.as_slice.result.now ≤ 2 ^ 126
 fits c =
-    let e = is c in
-    let few = least-fits c.args.self.now.base c.base-known.ensures.valid c.args.self.now.rows
-    (missing-room (strata_of c.args.self.now.base) c.args.self.now.rows
-    (λ z. c.if-missing-eq0.false (c.missing-missing.ensures.missing ∙ z)))
-    c.args.confounded (c.args.i + 1) c.missing-missing.result
-    (later_rows (strata_of c.args.self.now.base) c.args.self.now.rows) c.missing-missing.ensures.few in
-    omega arith
+    omega (
+      arith,
+      is c,
+      least-fits c.args.self.now.base c.base-known.ensures.valid c.args.self.now.rows
+          (missing-room (strata_of c.args.self.now.base) c.args.self.now.rows
+          (λ z. c.if-missing-eq0.false (c.missing-missing.ensures.missing ∙ z)))
+          c.args.confounded (c.args.i + 1) c.missing-missing.result
+          (later_rows (strata_of c.args.self.now.base) c.args.self.now.rows) c.missing-missing.ensures.few,
+    )
 
 pub total-requires : goal.total-requires
-total-requires c = let l = fits (goal.at.total-requires c).After-as_slice in omega arith
+total-requires c = omega (arith, fits (goal.at.total-requires c).After-as_slice)
 
 pub returns-clause-least : goal.returns-clause-least
 returns-clause-least c =
-    c.total.ensures ∙ is (goal.at.returns-clause-least c).After-as_slice
-    ∙ ap (λ k. least_sum k (added (goal.at.returns-clause-least c).After-as_slice)) c.missing-missing.ensures.missing
+    cc (c.total.ensures, is (goal.at.returns-clause-least c).After-as_slice, c.missing-missing.ensures.missing)
 
 pub returns-clause-fits : goal.returns-clause-fits
-returns-clause-fits c = let e = c.total.ensures in let l = fits (goal.at.returns-clause-fits c).After-as_slice in
-    omega arith
+returns-clause-fits c = let e = c.total.ensures in omega (arith, fits (goal.at.returns-clause-fits c).After-as_slice)

@@ -1,4 +1,4 @@
-use Rattle.std.proofs.Common.{ℕ, ◌≡◌, ◌-◌, suc, ◌∷◌, Bool, List, sym, ap, ◌∙◌, arith}
+use Rattle.std.proofs.Common.{◌≡◌, ◌-◌, suc, ◌∷◌, sym, ap, ◌∙◌, arith}
 use Rattle.std.specs.Prelude.{min}
 use Rattle.std.specs.List.{filter}
 use Rattle.std.proofs.lemmas.Bool.{cond-true, cond-false}
@@ -11,13 +11,12 @@ use Rattle.fx_table_check.proofs.prefix.Prefix.next_later.Goals as goal
 pub loop-row-init : goal.loop-row-init
 loop-row-init c =
     let x = strata_of c.args.self.now.base in
-    let rows : List ℕ = c.args.self.now.rows in
-    let p : ℕ → Bool = may_follow x rows in
+    let rows = c.args.self.now.rows in
+    let p = may_follow x rows in
     let least : c.min-row.result ≡ min c.args.below (bound x rows) =
-    c.min-row.ensures ∙ ap (min c.args.below) c.bound.ensures.bound in
+    cc (c.min-row.ensures, c.bound.ensures.bound) in
     record {
-      same = ap (λ k. filter p (falling k)) least
-          ∙ sym (cut p (bound x rows) (none-above x rows c.requires.units) c.args.below);
+      same = cc (cut p _ (none-above x rows c.requires.units) c.args.below);
       low = omega arith;
       bound = omega arith;
     }
@@ -25,28 +24,26 @@ loop-row-init c =
 pub returns-then-is_later-clause-next : goal.returns-then-is_later-clause-next
 returns-then-is_later-clause-next c =
     let x = strata_of c.args.self.now.base in
-    let rows : List ℕ = c.args.self.now.rows in
-    let p : ℕ → Bool = may_follow x rows in
-    let n : ℕ = c.loop-row.row - 1 in
+    let p = may_follow x c.args.self.now.rows in
+    let n = c.loop-row.row - 1 in
     sym c.loop-row.invariant.same
-    ∙ ap (λ k. filter p (falling k)) (let e : c.loop-row.row ≡ suc n = omega (arith, c.loop-row-test.true) in e)
-    ∙ cond-true (p n) (n ∷ filter p (falling n)) (filter p (falling n))
-    (below-bound x rows c.requires.units n (omega (arith, c.loop-row-test.true, c.loop-row.invariant.bound))
+    ∙ ap (λ k. filter p (falling k)) (let e : c.loop-row.row ≡ suc n = omega arith in e)
+    ∙ cond-true _ (n ∷ filter p (falling n)) (filter p (falling n))
+    (below-bound x c.args.self.now.rows c.requires.units n (omega arith)
     ∙ sym c.is_later.ensures ∙ c.if-is_later.true)
 
 pub loop-row-preserved : goal.loop-row-preserved
 loop-row-preserved c =
     let x = strata_of c.args.self.now.base in
-    let rows : List ℕ = c.args.self.now.rows in
-    let p : ℕ → Bool = may_follow x rows in
-    let n : ℕ = c.loop-row.row - 1 in
+    let p = may_follow x c.args.self.now.rows in
+    let n = c.loop-row.row - 1 in
     record {
       same = sym
-          (ap (λ k. filter p (falling k)) (let e : c.loop-row.row ≡ suc n = omega (arith, c.loop-row-test.true) in e)
-          ∙ cond-false (p n) (n ∷ filter p (falling n)) (filter p (falling n))
-          (below-bound x rows c.requires.units n (omega (arith, c.loop-row-test.true, c.loop-row.invariant.bound))
+          (ap (λ k. filter p (falling k)) (let e : c.loop-row.row ≡ suc n = omega arith in e)
+          ∙ cond-false _ (n ∷ filter p (falling n)) (filter p (falling n))
+          (below-bound x c.args.self.now.rows c.requires.units n (omega arith)
           ∙ sym c.is_later.ensures ∙ c.if-is_later.false))
           ∙ c.loop-row.invariant.same;
-      low = omega (arith, c.loop-row.invariant.low);
-      bound = omega (arith, c.loop-row.invariant.bound);
+      low = omega arith;
+      bound = omega arith;
     }

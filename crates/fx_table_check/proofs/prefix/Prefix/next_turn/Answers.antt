@@ -3,7 +3,6 @@ use Rattle.std.proofs.Common.{sym, subst, ap, ◌∙◌, arith}
 use Rattle.std.specs.List.{filter}
 use Rattle.fx_designs.specs.Answers.{falling}
 use Rattle.fx_strata.specs.Stages.{may_follow}
-use Rattle.fx_table_book.specs.declared.base.Base.{Base}
 use Rattle.fx_table_check.specs.Prefixes.{PrefixView}
 use Rattle.fx_table_book.specs.Tables.{strata_of}
 use Rattle.fx_table_check.specs.Checking.{pending}
@@ -12,7 +11,7 @@ use Rattle.fx_table_check.proofs.Turns.{popped-turns}
 use Rattle.fx_table_check.proofs.prefix.Prefix.next_turn.Goals as goal
 
 pub overflow_step-k : goal.overflow_step-k
-overflow_step-k c = omega (arith, c.len-k.ensures.fits)
+overflow_step-k c = omega arith
 
 pub loop-k-preserved : goal.loop-k-preserved
 loop-k-preserved c =
@@ -24,17 +23,16 @@ loop-k-preserved c =
     ap (λ (v : PrefixView). length v.rows) c.pop.ensures in
     let t = length-take n rows in
     let none : filter (may_follow x rows) (falling c.loop-k.below) ≡ [] =
-    ap (λ (b : Base). filter (may_follow (strata_of b) rows) (falling c.loop-k.below)) (sym inv.base)
-    ∙ c.in_default.ensures.next in
-    let low = subst (λ (b : Base). c.row-below.result < b.q ^ b.m) inv.base c.row-below.ensures.below in
+    cc (inv.base, c.in_default.ensures.next) in
+    let low = subst (λ b. c.row-below.result < b.q ^ b.m) inv.base c.row-below.ensures.below in
     record {
-      base = ap (λ (v : PrefixView). v.base) c.pop.ensures ∙ inv.base;
-      count = omega (arith, short, t, inv.count, c.if-k-eq0.false);
-      room = omega (arith, short, t, inv.room);
+      base = cc (c.pop.ensures, inv.base);
+      count = omega arith;
+      room = omega arith;
       below = omega arith;
       turns = inv.turns
           ∙ popped-turns x rows c.loop-k.below c.row-below.result n none (omega (arith, inv.count, c.if-k-eq0.false))
           (c.row-below.ensures.row
-          ∙ ap (slice_index rows) (let e : c.loop-k.k - 1 - 1 ≡ n = omega (arith, inv.count) in e))
-          ∙ ap (λ (v : PrefixView). pending x v.rows c.row-below.result) (sym c.pop.ensures);
+          ∙ ap (slice_index rows) (let e : c.loop-k.k - 1 - 1 ≡ n = omega arith in e))
+          ∙ ap (λ v. pending x v.rows c.row-below.result) (sym c.pop.ensures);
     }

@@ -1,4 +1,4 @@
-use Rattle.std.proofs.Common.{ℕ, ◌≡◌, ◌<◌, ◌+◌, ◌-◌, ◌^◌, false, length, sym, subst, ap, ◌∙◌, arith}
+use Rattle.std.proofs.Common.{ℕ, ◌<◌, ◌+◌, ◌-◌, ◌^◌, length, ap, ◌∙◌, arith}
 use Rattle.std.specs.Prelude.{nat_le}
 use Rattle.std.proofs.lemmas.Bool.Decides.{nat_tests}
 use Rattle.fx_strata.specs.Stages as stages
@@ -10,19 +10,9 @@ pub returns-clause-below : goal.returns-clause-below
 returns-clause-below c =
     let base : Base = c.args.self.now.base in
     let len : ℕ = length c.args.self.now.rows in
-    let out : nat_le (c.stage-stage.result.begin + c.stage-stage.result.units) len ≡ false =
-    ap (λ (t : stages.Stage). nat_le (t.begin + t.units) len) c.stage-stage.ensures.stage ∙ c.requires in
+    let out =
+    ap (λ t. nat_le (t.begin + t.units) len) c.stage-stage.ensures.stage ∙ c.requires in
     let high : len < c.stage-stage.result.begin + c.stage-stage.result.units = grind (arith, nat_tests, out) in
-    let place : ℕ = c.stage-stage.result.first_unit + (c.len.result - c.from.result) in
-    let is : c.power.result ≡ base.q ^ place =
-    c.power.ensures.power ∙ ap (λ (b : Base). b.q ^ place) c.base.ensures.base in
-    subst (λ n. n < base.q ^ base.m) (sym is)
-    (power-less base c.base.ensures.valid place
-    (omega (
-      arith,
-      high,
-      c.stage-stage.ensures.units,
-      c.stage-stage.ensures.begin,
-      c.len.ensures.count,
-      c.from.ensures,
-    )))
+    let place = c.stage-stage.result.first_unit + (c.len.result - c.from.result) in
+    rw (c.power.ensures.power ∙ ap (λ b. b.q ^ place) c.base.ensures.base) (power-less base c.base.ensures.valid place
+    (omega arith))

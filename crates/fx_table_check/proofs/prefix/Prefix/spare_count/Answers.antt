@@ -14,25 +14,24 @@ pub loop-row-preserved : goal.loop-row-preserved
 loop-row-preserved c =
     let x = strata_of c.args.self.now.base in
     let later : ℕ → Bool = λ r. is_later (dimensions_of x) (stage_after x c.args.self.now.rows).first_unit r in
-    let spare : ℕ → Bool = is_spare x c.args.none c.args.self.now.rows in
-    let n : ℕ = c.loop-row.row in
+    let spare = is_spare x c.args.none c.args.self.now.rows in
+    let n = c.loop-row.row in
     let passes = sym c.is_later.ensures ∙ c.if-not-is_later.false in
     let next : suc n ≡ n + 1 = omega arith in
     let to = ap (λ k. count_by spare (filter later (falling k))) next in
     record {
       are = elim c.if-is_spare.branch [
         | then-is_spare w ↦
-            let s = later-spare later spare n passes (sym c.is_spare.ensures ∙ w.if-is_spare.true) in
             let e = c.loop-row.invariant.are in
             let i = w.count-is in
-            let all : c.if-is_spare.count ≡ count_by spare (filter later (falling (suc n))) = omega arith in
-            all ∙ to
+            let all : c.if-is_spare.count ≡ count_by spare (filter later (falling (suc n))) =
+            omega (arith, later-spare later spare n passes (cc c.is_spare.ensures)) in
+            cc
         | else-is_spare w ↦
-            w.count-is ∙ c.loop-row.invariant.are
-            ∙ sym (later-taking later spare n passes (sym c.is_spare.ensures ∙ w.if-is_spare.false)) ∙ to
+            cc (c.loop-row.invariant.are, later-taking later spare n passes (cc c.is_spare.ensures))
       ];
       few = elim c.if-is_spare.branch [
-        | then-is_spare w ↦ omega (arith, w.count-is, c.loop-row.invariant.few)
-        | else-is_spare w ↦ omega (arith, w.count-is, c.loop-row.invariant.few)
+        | then-is_spare w ↦ omega arith
+        | else-is_spare w ↦ omega arith
       ];
     }

@@ -1,4 +1,4 @@
-use Rattle.std.proofs.Common.{[], ◌+◌, ◌++◌, ℕ, ◌∷◌, map}
+use Rattle.std.proofs.Common.{[], ◌+◌, ◌++◌, ◌∷◌, map}
 use Rattle.std.proofs.Common.{ap, ap₂, ◌∙◌}
 use Rattle.fx_strata.specs.Stages.{missing, later_rows}
 use Rattle.fx_strata.specs.Floors.{new_words}
@@ -9,9 +9,9 @@ use Rattle.fx_table_check.proofs.prefix.Prefix.words_floor.Goals as goal
 
 pub returns-clause-floor : goal.returns-clause-floor
 returns-clause-floor c =
-    ap₂ (λ (a b : ℕ). a + b) c.words_with-own.ensures.words
+    ap₂ (λ a b. a + b) c.words_with-own.ensures.words
     (c.least_new-new.ensures.least
-    ∙ ap (λ (v : PrefixView). least_sum (missing (strata_of v.base) v.rows)
+    ∙ ap (λ v. least_sum (missing (strata_of v.base) v.rows)
     (map (λ r. new_words (strata_of v.base) v.rows r c.args.confounded (c.args.i + 1))
     (later_rows (strata_of v.base) v.rows)))
     (c.push.ensures ∙ ap (λ (v : PrefixView). record v { rows = v.rows ++ c.args.row ∷ [] })
