@@ -1,3 +1,5 @@
+ghost use Rattle.std.specs.Prelude.{◌<◌, IfSome};
+
 use crate::basis::Basis;
 use crate::points::{Comparison, Points, compared_at};
 use arrayvec::ArrayVec;
@@ -18,9 +20,7 @@ struct Order<'a> {
     low_sum: u16,
     sum: u16,
     /// The vectors of the places that are taken, by their indexes.
-    places: [usize; MOST_INDEXES],
-    len: usize,
-    used: [bool; MOST_INDEXES],
+    places: ArrayVec<usize, MOST_INDEXES>,
     /// For each set of the places the sum of their vectors.
     sums: [u16; 1024],
     /// No index before this one is still to be tried at the next place.
@@ -52,7 +52,7 @@ pub(crate) fn earlier_order(
                 Comparison::After => order.next = index.saturating_add(1),
             },
             None => {
-                if order.len == 0 {
+                if order.places.is_empty() {
                     return None;
                 }
                 order.pop();
@@ -74,9 +74,7 @@ impl<'a> Order<'a> {
             all,
             low_sum: sum_of(&basis.vectors, low),
             sum: sum_of(&basis.vectors, all),
-            places: [0; MOST_INDEXES],
-            len: 0,
-            used: [false; MOST_INDEXES],
+            places: ArrayVec::new(),
             sums: [0; 1024],
             next: 0,
         }
@@ -92,25 +90,33 @@ impl<'a> Order<'a> {
     }
 
     /// The next index that is to be tried at the next place, if there is one.
-    fn next_index(&self) -> Option<usize> {
-        let (from, end) = if self.len < self.low {
+    fn next_index(&self) -> Option<usize>
+        ensures { IfSome result (λ index. index < MOST_INDEXES) }
+    {
+        let (from, end) = if self.places.len() < self.low {
             (0, self.low)
         } else {
             (self.low, self.all)
         };
         for index in self.next.max(from)..end.min(MOST_INDEXES) {
-            if !self.used[index] {
+            if !self.is_taken(index) {
                 return Some(index);
             }
         }
         None
     }
 
+    fn is_taken(&self, index: usize) -> bool {
+        self.places.as_slice().iter().any(|taken| *taken == index)
+    }
+
     /// How the image compares with the prefix at the rows that the next place settles, if it takes this vector.
-    fn compared_with(&mut self, index: usize) -> Comparison {
-        let count = 1usize << self.len.min(9);
-        self.add_sums(count, self.vectors[index.min(MOST_INDEXES - 1)]);
-        let is_low = self.len < self.low;
+    fn compared_with(&mut self, index: usize) -> Comparison
+        requires { index < MOST_INDEXES }
+    {
+        let count = 1usize << self.places.len().min(9);
+        self.add_sums(count, self.vectors[index]);
+        let is_low = self.places.len() < self.low;
         if !is_low || self.points.base.w == 0 {
             return self.compared_outside(count, 2 * count);
         }
@@ -121,7 +127,7 @@ impl<'a> Order<'a> {
             [count, 2 * count],
         );
         if inside == Comparison::Same
-            && self.len.saturating_add(1) == self.low
+            && self.places.len().saturating_add(1) == self.low
             && self.points.reaches_outside
         {
             return self.compared_outside(0, 2 * count);
@@ -148,10 +154,7 @@ impl<'a> Order<'a> {
 
     /// Takes a vector at the next place.
     fn take(&mut self, index: usize) {
-        let index = index.min(MOST_INDEXES - 1);
-        self.places[self.len.min(MOST_INDEXES - 1)] = index;
-        self.used[index] = true;
-        self.len = self.len.saturating_add(1).min(MOST_INDEXES);
+        let _ = self.places.try_push(index);
         self.next = 0;
     }
 
@@ -162,7 +165,7 @@ impl<'a> Order<'a> {
         } else {
             self.low
         };
-        if self.len.saturating_add(1) < end {
+        if self.places.len().saturating_add(1) < end {
             self.take(index);
         } else {
             self.next = index.saturating_add(1);
@@ -171,18 +174,21 @@ impl<'a> Order<'a> {
 
     /// Takes the last vector away, and goes on with those after it.
     fn pop(&mut self) {
-        self.len = self.len.saturating_sub(1).min(MOST_INDEXES - 1);
-        let index = self.places[self.len].min(MOST_INDEXES - 1);
-        self.used[index] = false;
-        self.next = index + 1;
+        if let Some(index) = self.places.pop() {
+            self.next = index.saturating_add(1);
+        }
     }
 
     /// The whole order: the vectors that are not taken come behind those of their kind.
     fn filled(&self) -> ArrayVec<usize, MOST_INDEXES> {
         let mut places = ArrayVec::new();
-        let taken = self.len.min(self.low);
+        let taken = self.places.len().min(self.low);
         self.fill(&mut places, [0, taken], [0, self.low]);
-        self.fill(&mut places, [taken, self.len], [self.low, self.all]);
+        self.fill(
+            &mut places,
+            [taken, self.places.len()],
+            [self.low, self.all],
+        );
         places
     }
 
@@ -193,11 +199,11 @@ impl<'a> Order<'a> {
         taken: [usize; 2],
         left: [usize; 2],
     ) {
-        for place in taken[0]..taken[1].min(MOST_INDEXES) {
+        for place in taken[0]..taken[1].min(self.places.len()) {
             let _ = places.try_push(self.places[place]);
         }
         for index in left[0]..left[1].min(MOST_INDEXES) {
-            if !self.used[index] {
+            if !self.is_taken(index) {
                 let _ = places.try_push(index);
             }
         }
