@@ -1,5 +1,6 @@
 -- What the answer of a question adds to what was found before.
-use Rattle.std.proofs.Common.{ℕ, ◌≡◌, ◌+◌, ◌&&◌, ◌||◌, Bool, true, false, length, filter, List, [], ◌∷◌, ◌++◌}
+use Rattle.std.proofs.Common.{ℕ, ◌≡◌, ◌≤◌, ◌+◌, ◌-◌, ◌&&◌, ◌||◌, arith, Bool, true, false, length, filter, List, []}
+use Rattle.std.proofs.Common.{◌∷◌, ◌++◌}
 use Rattle.std.proofs.Common.{Option, Some, None, refl, sym, ap, ◌∙◌, subst, eqb-true}
 use Rattle.std.specs.Prelude.{not}
 use Rattle.std.specs.List.{list_all}
@@ -18,9 +19,16 @@ use Rattle.fx_vectors.specs.Question.{problem_of, requirement_of}
 use Rattle.fx_search.specs.Standing.{best_rows, HasDimensions}
 use Rattle.fx_search.proofs.Whole.{shape-same}
 use Rattle.fx_statements.specs.Steps.{Meaning}
-use Rattle.fx_statements.specs.Questions.{Found, found_by, last_found, reached_by, resolution_wanted}
+use Rattle.fx_statements.specs.Questions.{Found, found_by, last_found, lowest, nodes_of, question_for}
+use Rattle.fx_statements.specs.Questions.{reached_by, resolution_wanted}
 use Rattle.fx_answer.specs.Standing.{IsOf, IsShapeOf, IsWhole, StandsFor}
-use Rattle.fx_answer.proofs.Asking.{found_more}
+use Rattle.fx_vectors.specs.declared.book.NamedBook.{NamedBook}
+use Rattle.fx_designs.specs.Nodes.{nodes}
+use Rattle.fx_answer.specs.Asking.{HaveComeTo, IsTurnOf, questions_below}
+use Rattle.fx_answer.specs.Books.{book_at}
+use Rattle.fx_answer.specs.declared.answering.Finished.{Finished}
+use Rattle.fx_statements.proofs.Concluded.{nodes_more}
+use Rattle.fx_answer.proofs.Asking.{below_more, books_so_far, found_more}
 
 -- the answer has a row for each factor and for each block factor
 answer-whole : (p : Problem) (rows : List ℕ) → answer p ≡ Some rows → length rows ≡ p.dimensions.s + p.dimensions.t
@@ -109,3 +117,54 @@ module _ (question : Question) (budget : ℕ) where
       rw (← (is ∙ ap (λ p. carried p budget) same)) stands
   left-stands (Some matrix) found before p is sized same stands =
       rw (← (is ∙ ap (λ p. carried p budget) same)) (refl, sized ∙ ap (λ p. p.dimensions) same)
+
+-- What the questions of a step have come to where that for n is finished too:
+module _ (step : Meaning) (n : ℕ) (turn : IsTurnOf step n) (question : Question)
+    (same : problem_of question ≡ question_for step n) (before : Finished)
+    (come : HaveComeTo step (questions_below step n) before) (count number : ℕ) (books : List NamedBook)
+    (counted : count ≡ length (nodes (problem_of question))) (few : count ≤ step.settings.budget - before.nodes)
+    (numbered : number ≡ 1 + (n - lowest step step.settings.size))
+    (booked : books ≡ before.books ++ book_at number (problem_of question)) where
+  abbrev now : Option MatrixView → ℕ → Finished
+  now found reached = record { found = found; reached = reached; nodes = before.nodes + count; books = books }
+
+  come_further : (found : Option MatrixView) (reached : ℕ)
+      → (let ps = questions_below step n ++ question_for step n ∷ [] in
+      StandsFor found (last_found None ps) × (reached ≡ reached_by (last_found None ps)))
+      → IsOf step found → IsWhole found
+      → HaveComeTo step (questions_below step (n + 1)) (now found reached)
+  come_further found reached h of whole =
+      let is = rw (← (below_more step n turn)) at h in
+      let one = ap (λ p. length (nodes p)) same in
+      let sum = ap nodes_of (below_more step n turn) in
+      let most = come.within in
+      record {
+        nodes = omega (arith, come.nodes, counted, one, sum, nodes_more (questions_below step n) (question_for step n));
+        within = omega arith;
+        found = is.0;
+        of_step = of;
+        whole = whole;
+        reached = is.1;
+        books = books_so_far step n turn _ number before.books books same numbered come.books booked;
+      }
+
+  -- it has this answer
+  pub with_matrix : (matrix : MatrixView) (reached : ℕ) → answer (problem_of question) ≡ Some matrix.rows
+      → matrix.shape ≡ question.shape → IsShapeOf step question.shape
+      → reached ≡ resolution_wanted (requirement_of question.demands)
+      → HaveComeTo step (questions_below step (n + 1)) (now (Some matrix) reached)
+  with_matrix matrix reached is sized shape wanted =
+      come_further (Some matrix) reached (
+        found-stands question matrix is sized _ same (questions_below step n),
+        wanted ∙ found-reached question matrix is sized _ same (questions_below step n),
+      ) (found-of question matrix is sized step shape) (found-whole question matrix is sized)
+
+  -- it has none
+  pub with_none : answer (problem_of question) ≡ None
+      → HaveComeTo step (questions_below step (n + 1)) (now before.found before.reached)
+  with_none is =
+      let none = ap answer (sym same) ∙ is in
+      come_further before.found before.reached (
+        nothing-stands _ before.found (questions_below step n) none come.found,
+        come.reached ∙ nothing-reached _ (questions_below step n) none,
+      ) come.of_step come.whole

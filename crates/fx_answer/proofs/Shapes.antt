@@ -1,7 +1,7 @@
 -- The books of a step have shapes within the limits.
 use Rattle.std.proofs.Common.{◌≡◌, ℕ, ◌≤◌, ◌+◌, ◌-◌, zero, suc, true, false, List, [], ◌∷◌, map, Option, Some}
 use Rattle.std.proofs.Common.{None, All}
-use Rattle.std.proofs.Common.{refl, arith}
+use Rattle.std.proofs.Common.{refl, arith, sym, subst}
 use Rattle.std.specs.Prelude.{find, if◌then◌else◌}
 use Rattle.std.specs.List.{AllByRecursion, range_with_len}
 use Rattle.std.proofs.lemmas.List.Elements.{All-from_recursion}
@@ -9,11 +9,14 @@ use Rattle.fx_base.proofs.Lists.{each-append}
 use Rattle.fx_designs.specs.Problems.{Problem}
 use Rattle.fx_vectors.specs.Shape.{IsShape}
 use Rattle.fx_statements.specs.Steps.{Meaning}
-use Rattle.fx_statements.specs.Questions.{Turn, asked, highest, lowest, passes, question_for, questions_of, turns}
+use Rattle.fx_statements.specs.Questions.{Turn, asked, conclusion_in, highest, lowest, outcome_of, passes}
+use Rattle.fx_statements.specs.Questions.{question_for, questions_of, turns}
+use Rattle.fx_statements.specs.declared.outcome.Outcome.{Outcome}
 use Rattle.fx_statements.proofs.Concluded.{each_asked, kept_turn}
 use Rattle.fx_book.specs.QuestionBooks.{book_for, has_book, shape_of}
 use Rattle.fx_answer.specs.Books.{book_at, books_from, books_of, finished, finished_before}
-use Rattle.fx_answer.specs.Outcomes.{HasShape}
+use Rattle.fx_answer.specs.Outcomes.{HasShape, IsOutcome}
+use Rattle.fx_answer.specs.Standing.{IsOutcomeOf}
 use Rattle.fx_answer.specs.ValidSteps.{IsValidStep}
 use Rattle.fx_answer.proofs.Valid.{shape_valid, some_numbers}
 
@@ -72,3 +75,16 @@ module _ (step : Meaning) (valid : IsValidStep step) where
   shaped_books =
       All-from_recursion HasShape _
       (books_shaped 1 _ finished_shaped)
+
+-- an outcome is that of a step by what it states, its shape and its books
+pub is_outcome : (step : Meaning) → IsValidStep step → (outcome : Outcome) → IsOutcomeOf step outcome
+    → conclusion_in outcome ≡ outcome_of step
+    → outcome.books ≡ books_of step
+    → IsOutcome step outcome
+is_outcome step valid outcome of concluded books = record {
+  concluded = concluded;
+  factors = of.factors;
+  few_blocks = of.few_blocks;
+  books = books;
+  shapes = subst (All HasShape) (sym books) (shaped_books step valid);
+}

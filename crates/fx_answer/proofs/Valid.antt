@@ -330,6 +330,26 @@ module _ (step : Meaning) (valid : IsValidStep step) where
   pub some_numbers : (n : ℕ) → n ≡ lowest step x.size → n ≤ highest step x.size
   some_numbers n is = rw is (at_least_one x.size refl)
 
+  -- and there are few
+  few_of : (size : Size) → x.size ≡ size → highest step size < 255
+  few_of Minimum is =
+      let few =
+      leb-true (greatest x.q) 10
+      (at_level levels (λ q. nat_le (greatest q) 10) x.q refl (bounds.level x valid.settings)) in omega arith
+  few_of (Runs m) is =
+      bounded _ _
+      (few_factors x.q m (no_more_than_9 x.q (bounds.level x valid.settings)).0
+      (leb-true _ _ (and_parts _ _ (rw is at (bounds.size x valid.settings))).1))
+    where
+      bounded : (most seeks : Bool) → m ≤ 10
+          → (if most then m else (if seeks then max 3 (length step.factors + 1) else 3)) < 255
+      bounded true seeks few = omega arith
+      bounded false true few = omega (arith, few_factors_in)
+      bounded false false few = omega arith
+
+  pub few_numbers : highest step x.size < 255
+  few_numbers = few_of x.size refl
+
 -- a step that is kept is valid
 pub kept_valid : (step : Step) → IsValidStep (meaning_of step)
 kept_valid step = record {

@@ -1,8 +1,9 @@
-ghost use Rattle.std.specs.Prelude.{◌≡◌, ◌<◌, ◌≤◌, ◌+◌, ◌^◌, List, ℕ, Option, Bool, IfOk, is_some, length};
+ghost use Rattle.std.specs.Prelude.{◌≡◌, ◌<◌, ◌≤◌, ◌+◌, ◌-◌, Option, IfOk, is_some};
 ghost use Rattle.fx_designs.specs.Answers.{answer};
 ghost use Rattle.fx_designs.specs.Problems.{Problem};
 ghost use Rattle.fx_vectors.specs.Shape.{IsShape, dimensions_of};
-ghost use Rattle.fx_search.specs.FactorRows.{AreForbidden};
+ghost use Rattle.fx_vectors.specs.Question.{problem_of};
+ghost use Rattle.fx_search.specs.Asked.{IsAnswer};
 ghost use Rattle.fx_search.specs.Standing.{best_rows};
 ghost use Rattle.fx_statements.specs.Steps.{Meaning, meaning_of};
 ghost use Rattle.fx_statements.specs.Questions.{
@@ -10,10 +11,6 @@ ghost use Rattle.fx_statements.specs.Questions.{
   conclusion_in,
   cut_short,
   ends_with,
-  highest,
-  last_found,
-  lowest,
-  nodes_of,
   question_for,
   reached_beside,
   reached_by,
@@ -22,28 +19,16 @@ ghost use Rattle.fx_statements.specs.Questions.{
 };
 ghost use Rattle.fx_answer.specs.Outcomes.{IsOutcome};
 ghost use Rattle.fx_answer.specs.StepClaims.{ClaimsHold};
-ghost use Rattle.fx_answer.specs.Standing.{
-  IsOf,
-  IsOutcomeOf,
-  IsShapeOf,
-  IsWhole,
-  ComeBefore,
-  StandsFor,
-  all_books_from,
-  all_books_past,
-  conclusion_from,
-  conclusion_past,
-};
-ghost use Rattle.fx_answer.specs.Books.{books_from};
+ghost use Rattle.fx_answer.specs.Asking.{HaveComeTo, IsTurnOf, LeadsTo, questions_below};
+ghost use Rattle.fx_answer.specs.Standing.{IsOf, IsOutcomeOf, IsShapeOf, IsWhole, StandsFor};
 
 use crate::booking::{add_absence, add_answer, question_number};
 use crate::question::{highest, lowest, question_for, resolution_wanted};
 use fx_base::NoMemory;
 use fx_board::{Alone, Asked, Gate, ask_after};
-use fx_demands::ForbiddenVectors;
 use fx_search::forbidden_vectors_of;
 use fx_statements::{End, Outcome, Size, Step};
-use fx_vectors::{Books, Matrix, Shape};
+use fx_vectors::{Books, Matrix, Question, Shape};
 use std::alloc::Global;
 use std::thread::Threads;
 
@@ -85,64 +70,56 @@ pub fn answer<R: Threads + Sync, G: Gate>(
     // asked, or none is better.
     ensures claims { IfOk result (λ outcome. ClaimsHold (meaning_of step.now) (conclusion_in outcome)) }
 {
-    let none = Finished {
+    let mut n = lowest(step);
+    // One list serves all questions: they differ in runs, blocks or resolution alone.
+    let words = forbidden_vectors_of(alloc, &question_for(alloc, step, n)?)?;
+    let mut finished = Finished {
         found: None,
         reached: 0,
         nodes: 0,
         books: Books::new(alloc),
     };
-    let n = lowest(step);
-    // One list serves all questions: they differ in runs, blocks or resolution alone.
-    let words = forbidden_vectors_of(alloc, &question_for(alloc, step, n)?)?;
-    ask_from(rt, alloc, step, &words, threads, gate, n, none)
+    loop {
+        let question = question_for(alloc, step, n)?;
+        let left = step.settings.budget - finished.nodes;
+        let few = Alone::few();
+        let asked = ask_after(rt, alloc, &question, &words, left, threads, few, gate)?;
+        match follow(alloc, step, n, question, asked, finished)? {
+            Course::Ends(outcome) => return Ok(outcome),
+            Course::GoesOn(more) => finished = more,
+        }
+        n += 1;
+    }
 }
 
-/// Asks the questions for the numbers from `n` on, after those that are finished.
-#[cycle(asking)]
-fn ask_from<R: Threads + Sync, G: Gate>(
-    rt: &R,
+/// What the answer of a question leads to: the outcome of the step, or the next question.
+#[derive(Drop)]
+enum Course {
+    Ends(Outcome),
+    GoesOn(Finished),
+}
+
+/// Where this answer of the question for `n` leads, after those below, which are finished.
+fn follow(
     alloc: Global,
     step: &Step,
-    words: &ForbiddenVectors,
-    threads: u8,
-    gate: &G,
     n: u8,
+    question: Question,
+    asked: Asked,
     finished: Finished,
-) -> Result<Outcome, NoMemory>
-    requires threads { (0 < threads) × (threads ≤ 64) }
-    requires low { lowest (meaning_of step.now) step.now.settings.size ≤ n }
-    requires high { n ≤ highest (meaning_of step.now) step.now.settings.size }
-    requires words { (k : ℕ) → AreForbidden (question_for (meaning_of step.now) k) words.now }
-    requires within { finished.nodes ≤ step.now.settings.budget }
-    requires found { IsOf (meaning_of step.now) finished.found }
-    requires whole { IsWhole finished.found }
-    ensures of_step { IfOk result (IsOutcomeOf (meaning_of step.now)) }
-    ensures concluded { IfOk result (λ outcome. (earlier : List Problem)
-        → finished.nodes ≡ nodes_of earlier
-        → StandsFor finished.found (last_found None earlier)
-        → finished.reached ≡ reached_by (last_found None earlier)
-        → conclusion_in outcome ≡ conclusion_from (meaning_of step.now) earlier n) }
-    ensures books { IfOk result (λ outcome. (earlier : List Problem)
-        → finished.nodes ≡ nodes_of earlier
-        → ComeBefore (meaning_of step.now) earlier n
-        → finished.books ≡ books_from 1 earlier
-        → outcome.books ≡ all_books_from (meaning_of step.now) earlier n) }
+) -> Result<Course, NoMemory>
+    requires turn { IsTurnOf (meaning_of step.now) n }
+    requires finished { HaveComeTo (meaning_of step.now) (questions_below (meaning_of step.now) n) finished }
+    requires problem { problem_of question ≡ question_for (meaning_of step.now) n }
+    requires of_step { IsShapeOf (meaning_of step.now) question.shape }
+    requires answer { IsAnswer question (step.now.settings.budget - finished.nodes) asked }
+    ensures { IfOk result (LeadsTo (meaning_of step.now) n) }
 {
-    let question = question_for(alloc, step, n)?;
     let shape = question.shape;
     let number = question_number(step, n);
     let reached = resolution_wanted(&question.demands);
     let mut books = finished.books;
-    match ask_after(
-        rt,
-        alloc,
-        &question,
-        words,
-        step.settings.budget - finished.nodes,
-        threads,
-        Alone::few(),
-        gate,
-    )? {
+    match asked {
         Asked::Found {
             matrix,
             nodes,
@@ -155,9 +132,7 @@ fn ask_from<R: Threads + Sync, G: Gate>(
                 nodes: finished.nodes + nodes,
                 books,
             };
-            go_on(
-                rt, alloc, step, words, threads, gate, n, shape, true, finished,
-            )
+            Ok(go_on(step, n, shape, true, finished))
         }
         Asked::Nothing { nodes, marks } => {
             add_absence(&mut books, number, question, marks)?;
@@ -167,63 +142,30 @@ fn ask_from<R: Threads + Sync, G: Gate>(
                 nodes: finished.nodes + nodes,
                 books,
             };
-            go_on(
-                rt, alloc, step, words, threads, gate, n, shape, false, finished,
-            )
+            Ok(go_on(step, n, shape, false, finished))
         }
         Asked::Budget { best } => {
             let reached = reached_beside(&best, finished.reached);
-            Ok(cut_short(
-                shape,
-                best.or(finished.found),
-                reached,
-                step.settings.budget,
-                books,
-            ))
+            let left = best.or(finished.found);
+            let budget = step.settings.budget;
+            Ok(Course::Ends(cut_short(shape, left, reached, budget, books)))
         }
     }
 }
 
-/// Asks the questions for the numbers above `n`, unless that for `n`, which is finished, is the last.
-#[cycle(asking)]
-fn go_on<R: Threads + Sync, G: Gate>(
-    rt: &R,
-    alloc: Global,
-    step: &Step,
-    words: &ForbiddenVectors,
-    threads: u8,
-    gate: &G,
-    n: u8,
-    shape: Shape,
-    is_answered: bool,
-    finished: Finished,
-) -> Result<Outcome, NoMemory>
-    requires threads { (0 < threads) × (threads ≤ 64) }
-    requires low { lowest (meaning_of step.now) step.now.settings.size ≤ n }
-    requires high { n ≤ highest (meaning_of step.now) step.now.settings.size }
-    requires words { (k : ℕ) → AreForbidden (question_for (meaning_of step.now) k) words.now }
-    requires within { finished.nodes ≤ step.now.settings.budget }
+/// Ends the asking after the question for `n`, which is finished, or goes on to the next one.
+fn go_on(step: &Step, n: u8, shape: Shape, is_answered: bool, finished: Finished) -> Course
+    requires turn { IsTurnOf (meaning_of step.now) n }
+    requires finished { HaveComeTo (meaning_of step.now) (questions_below (meaning_of step.now) (n + 1)) finished }
     requires shape { IsShapeOf (meaning_of step.now) shape }
     requires dimensions { (question_for (meaning_of step.now) n).dimensions ≡ dimensions_of shape }
     requires answered { is_answered ≡ is_some (answer (question_for (meaning_of step.now) n)) }
-    requires found { IsOf (meaning_of step.now) finished.found }
-    requires whole { IsWhole finished.found }
-    ensures of_step { IfOk result (IsOutcomeOf (meaning_of step.now)) }
-    ensures concluded { IfOk result (λ outcome. (earlier : List Problem)
-        → finished.nodes ≡ nodes_of earlier
-        → StandsFor finished.found (last_found None earlier)
-        → finished.reached ≡ reached_by (last_found None earlier)
-        → conclusion_in outcome ≡ conclusion_past (meaning_of step.now) earlier n) }
-    ensures books { IfOk result (λ outcome. (earlier : List Problem)
-        → finished.nodes ≡ nodes_of earlier
-        → ComeBefore (meaning_of step.now) earlier (n + 1)
-        → finished.books ≡ books_from 1 earlier
-        → outcome.books ≡ all_books_past (meaning_of step.now) earlier n) }
+    ensures { LeadsTo (meaning_of step.now) n result }
 {
     if n == highest(step) || is_last(step.settings.size, is_answered) {
-        return Ok(concluded(shape, finished));
+        return Course::Ends(concluded(shape, finished));
     }
-    ask_from(rt, alloc, step, words, threads, gate, n + 1, finished)
+    Course::GoesOn(finished)
 }
 
 /// Whether no further question is asked after one that has an answer, or has none.
