@@ -4,6 +4,8 @@ use Rattle.std.proofs.Common.{take, drop, Option, Some, None, refl, sym, ◌∙�
 use Rattle.std.specs.Prelude.{nat_lt, Result, Ok, Err, IfOk}
 use Rattle.std.proofs.lemmas.Bool.{cases_eq, eq-eqb, ne_eqb, cond-true}
 use Rattle.std.proofs.lemmas.List.{take_all}
+use Rattle.fx_judge.specs.declared.fault.FaultKind.TheVariants.{NoRuns, InvalidNames, OtherLength, NoLevel}
+use Rattle.fx_judge.specs.declared.fault.FaultKind.TheVariants.{TooManyComponents, TooManyRuns}
 use Rattle.fx_judge.specs.declared.fault.PlanFault.{PlanFault}
 use Rattle.fx_judge.specs.Plans.{component_total}
 use Rattle.fx_judge.specs.Reading.{are_names, are_values, plan_fault, first_fault, factor_names, row_fault}
@@ -22,7 +24,7 @@ module _ (q : ℕ) (head : List (List ℕ)) where
       → row_fault q head n (take (suc k) rows) ≡ row_fault q head n rows
   cut k n [] e = refl
   cut zero n (row ∷ rows) e =
-      cc (cond-true _ (Some (plan_fault 7 n)) _ (eq-eqb n 4098 (omega arith)))
+      cc (cond-true _ (Some (plan_fault TooManyRuns n)) _ (eq-eqb n 4098 (omega arith)))
   cut (suc k) n (row ∷ rows) e =
       cc (cut k (n + 1) rows (omega arith))
 
@@ -33,13 +35,13 @@ module _ (q : ℕ) (head : List (List ℕ)) where
   none_short n (row ∷ rows) low e =
       elim (cases_eq n 4098) [
         | inl is ↦
-            let no : ◌≡◌ {A = Option PlanFault} (Some (plan_fault 7 n)) None =
-            sym (cond-true _ (Some (plan_fault 7 n)) _ (eq-eqb n 4098 is)) ∙ e in cc no
+            let no : ◌≡◌ {A = Option PlanFault} (Some (plan_fault TooManyRuns n)) None =
+            sym (cond-true _ (Some (plan_fault TooManyRuns n)) _ (eq-eqb n 4098 is)) ∙ e in cc no
         | inr ne ↦
             let rest =
             none_through (eqb n 4098) (not (eqb (length row) (length head)))
-            (not (are_values q (drop (unread_columns head) row))) (plan_fault 7 n) (plan_fault 4 n)
-            (plan_fault 5 n) (row_fault q head (n + 1) rows) e in
+            (not (are_values q (drop (unread_columns head) row))) (plan_fault TooManyRuns n) (plan_fault OtherLength n)
+            (plan_fault NoLevel n) (row_fault q head (n + 1) rows) e in
             omega (arith, none_short (n + 1) rows (omega arith) rest)
       ]
 
@@ -63,7 +65,8 @@ whole_cut q n [] long e = take_all n [] (omega arith)
 whole_cut q n (head ∷ rows) long e =
     let rest =
     none_through (not (are_names (factor_names head))) (nat_lt 300 (component_total q (length (factor_names head))))
-    (eqb (length rows) 0) (plan_fault 3 1) (plan_fault 6 1) (plan_fault 2 2) (row_fault q head 2 rows) e in
+    (eqb (length rows) 0) (plan_fault InvalidNames 1) (plan_fault TooManyComponents 1) (plan_fault NoRuns 2)
+    (row_fault q head 2 rows) e in
     take_all n (head ∷ rows) (omega (arith, none_short q head 2 rows (omega arith) rest))
 
 -- two facts of a result together

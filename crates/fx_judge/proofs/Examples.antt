@@ -7,6 +7,7 @@ use Rattle.csv.specs.Reading.{records_from, strip_bom}
 use Rattle.fx_designs.specs.Galois.{add, mul, neg, prime_of, degree_of, reduction_of}
 use Rattle.fx_designs.specs.Runs.{is_constant}
 use Rattle.fx_designs.specs.Aliases.{is_aliased}
+use Rattle.fx_judge.specs.declared.fault.FaultKind.TheVariants.{NoRuns, InvalidNames, OtherLength, NoLevel}
 use Rattle.fx_judge.specs.declared.kinship.Kinship.TheVariants.{Aliased, Orthogonal, Partial}
 use Rattle.fx_judge.specs.Reading.{csv_records, first_fault, plan_in, plan_fault}
 use Rattle.fx_judge.specs.Kinships.{are_orthogonal, kinship}
@@ -29,13 +30,13 @@ told :
     (first_fault 2 (csv_records half) ≡ None)
     × (plan_in 2 (csv_records half)
     ≡ record { q = 2; names = codes "A" ∷ codes "B" ∷ codes "C" ∷ []; rows = half_rows })
-    × (first_fault 2 (csv_records (codes "A,B\n-1,2\n")) ≡ Some (plan_fault 5 2))
+    × (first_fault 2 (csv_records (codes "A,B\n-1,2\n")) ≡ Some (plan_fault NoLevel 2))
     × (first_fault 2 (csv_records (codes "A,B\n-1,+1\n")) ≡ None)
-    × (first_fault 4 (csv_records (codes "A,B\n0,+1\n")) ≡ Some (plan_fault 5 2))
-    × (first_fault 2 (csv_records []) ≡ Some (plan_fault 2 1))
-    × (first_fault 2 (csv_records (codes "A\n")) ≡ Some (plan_fault 2 2))
-    × (first_fault 2 (csv_records (codes "A,a\n")) ≡ Some (plan_fault 3 1))
-    × (first_fault 2 (csv_records (codes "block,A\n7,1,1\n")) ≡ Some (plan_fault 4 2))
+    × (first_fault 4 (csv_records (codes "A,B\n0,+1\n")) ≡ Some (plan_fault NoLevel 2))
+    × (first_fault 2 (csv_records []) ≡ Some (plan_fault NoRuns 1))
+    × (first_fault 2 (csv_records (codes "A\n")) ≡ Some (plan_fault NoRuns 2))
+    × (first_fault 2 (csv_records (codes "A,a\n")) ≡ Some (plan_fault InvalidNames 1))
+    × (first_fault 2 (csv_records (codes "block,A\n7,1,1\n")) ≡ Some (plan_fault OtherLength 2))
     × (plan_in 3 (csv_records (codes "block,A\n7,1\n"))
     ≡ record { q = 3; names = codes "A" ∷ []; rows = (2 ∷ []) ∷ [] })
 unfolding csv_records records_from next_record strip_bom digits

@@ -1,4 +1,5 @@
 pub mod Plans
+pub mod Faults
 pub mod Reading
 pub mod Kinships
 pub mod Regular

@@ -7,6 +7,9 @@ use Rattle.std.specs.Str.{str_eq_ignore_ascii_case, bytes_eq}
 use Rattle.csv.specs.Reading.{default_config, records, strip_bom}
 use Rattle.fx_lexer.specs.Bytes.{begins_word, is_word_byte}
 use Rattle.fx_runs.specs.Levels.{default_values}
+use Rattle.fx_judge.specs.declared.fault.FaultKind.{FaultKind}
+use Rattle.fx_judge.specs.declared.fault.FaultKind.TheVariants.{TooLong, NoRuns, InvalidNames, OtherLength, NoLevel}
+use Rattle.fx_judge.specs.declared.fault.FaultKind.TheVariants.{TooManyComponents, TooManyRuns}
 use Rattle.fx_judge.specs.declared.fault.PlanFault.{PlanFault}
 use Rattle.fx_judge.specs.Plans.{PlanView, component_total}
 
@@ -57,26 +60,26 @@ value_code q field = position (λ value. bytes_eq value (without_sign q field)) 
 abbrev pub are_values : ℕ → List (List ℕ) → Bool
 are_values q fields = list_all (λ field. is_some (value_code q field)) fields
 
-abbrev pub plan_fault : ℕ → ℕ → PlanFault
-plan_fault code number = record { code = code; number = number }
+abbrev pub plan_fault : FaultKind → ℕ → PlanFault
+plan_fault kind number = record { kind = kind; number = number }
 
 -- the first fault of the records behind the head, where the next one has this number: too many rows, another number of
 -- fields than the head, a field that is no value
 abbrev pub row_fault : ℕ → List (List ℕ) → ℕ → List (List (List ℕ)) → Option PlanFault
 row_fault q head number [] = None
 row_fault q head number (row ∷ rows) =
-    if number == 4098 then Some (plan_fault 7 number)
-    else if not (length row == length head) then Some (plan_fault 4 number)
-    else if not (are_values q (drop (unread_columns head) row)) then Some (plan_fault 5 number)
+    if number == 4098 then Some (plan_fault TooManyRuns number)
+    else if not (length row == length head) then Some (plan_fault OtherLength number)
+    else if not (are_values q (drop (unread_columns head) row)) then Some (plan_fault NoLevel number)
     else row_fault q head (number + 1) rows
 
 -- the first fault of the records: no record; names that are none; too many components; no row; a fault of a row
 abbrev pub first_fault : ℕ → List (List (List ℕ)) → Option PlanFault
-first_fault q [] = Some (plan_fault 2 1)
+first_fault q [] = Some (plan_fault NoRuns 1)
 first_fault q (head ∷ rows) =
-    if not (are_names (factor_names head)) then Some (plan_fault 3 1)
-    else if nat_lt 300 (component_total q (length (factor_names head))) then Some (plan_fault 6 1)
-    else if length rows == 0 then Some (plan_fault 2 2)
+    if not (are_names (factor_names head)) then Some (plan_fault InvalidNames 1)
+    else if nat_lt 300 (component_total q (length (factor_names head))) then Some (plan_fault TooManyComponents 1)
+    else if length rows == 0 then Some (plan_fault NoRuns 2)
     else row_fault q head 2 rows
 
 -- the codes of a row
@@ -96,5 +99,5 @@ plan_unless (Some found) plan = Err found
 -- the plan of a text, at q levels, or the first fault of the text; a text of more than 1,048,576 bytes is not read
 unfoldable pub plan_of_text : ℕ → List ℕ → Result PlanView PlanFault
 plan_of_text q text =
-    if nat_lt 1048576 (length text) then Err (plan_fault 1 1)
+    if nat_lt 1048576 (length text) then Err (plan_fault TooLong 1)
     else plan_unless (first_fault q (csv_records text)) (plan_in q (csv_records text))

@@ -19,7 +19,7 @@ mod rule;
 mod tally;
 mod value;
 
-pub use fault::{PlanFault, PlanStop};
+pub use fault::{FaultKind, PlanFault, PlanStop};
 pub use kinship::{Kinship, kinship_of};
 pub use laws::{
     aliased_over_replicated_runs, regular_plans_have_no_partial_pair, regular_where_even,

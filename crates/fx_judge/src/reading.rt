@@ -6,10 +6,10 @@ ghost use Rattle.fx_designs.specs.Vectors.{IsVector};
 ghost use Rattle.fx_runs.specs.Levels.{default_values};
 ghost use Rattle.fx_judge.specs.Plans.{component_total};
 ghost use Rattle.fx_judge.specs.Reading.{are_names, are_values, codes_in, first_fault, factor_names, plan_in};
-ghost use Rattle.fx_judge.specs.Reading.{plan_of_text, csv_records, row_fault, unread_columns};
+ghost use Rattle.fx_judge.specs.Reading.{plan_fault, plan_of_text, csv_records, row_fault, unread_columns};
 ghost use Rattle.fx_judge.specs.Steps.{AreCodes, Explains, GoesOn, IsFirst, StopsAt};
 
-use crate::fault::{PlanFault, PlanStop};
+use crate::fault::{FaultKind, PlanFault, PlanStop};
 use crate::field::{field, fields_from, unread};
 use crate::name::are_names;
 use crate::plan::Plan;
@@ -57,34 +57,34 @@ fn plan_from(alloc: Global, records: &[ByteRecord], field: Field) -> Result<Plan
         (first_fault field (map fields_of records.now))) }
 {
     if records.is_empty() {
-        return Err(refused(2, 1));
+        return Err(refused(FaultKind::NoRuns, 1));
     }
     let q = field.q();
     let head = &records[0];
     let first = unread(head);
     if head.len() - first > 40 {
-        return Err(refused(3, 1));
+        return Err(refused(FaultKind::InvalidNames, 1));
     }
     let Ok(names) = fields_from(alloc, head, first) else {
         return Err(PlanStop::NoMemory);
     };
     if !are_names(names.as_slice()) {
-        return Err(refused(3, 1));
+        return Err(refused(FaultKind::InvalidNames, 1));
     }
     if component_total(q, names.len() as u8) > 300 {
-        return Err(refused(6, 1));
+        return Err(refused(FaultKind::TooManyComponents, 1));
     }
     if records.len() == 1 {
-        return Err(refused(2, 2));
+        return Err(refused(FaultKind::NoRuns, 2));
     }
     let rows = rows_of(alloc, q, records, first)?;
     Ok(Plan::new(field, names, rows))
 }
 
-fn refused(code: u8, number: u32) -> PlanStop
-    ensures { result ≡ PlanStop.Refused (record { code = code; number = number }) }
+fn refused(kind: FaultKind, number: u32) -> PlanStop
+    ensures { result ≡ PlanStop.Refused (plan_fault kind number) }
 {
-    PlanStop::Refused(PlanFault { code, number })
+    PlanStop::Refused(PlanFault { kind, number })
 }
 
 /// How many components of one and two of `s` factors there are.
@@ -164,14 +164,23 @@ fn codes_of(
         (StopsAt q (fields_of head.now) number (fields_of row.now)) }
 {
     if number == 4098 {
-        return Err(PlanFault { code: 7, number });
+        return Err(PlanFault {
+            kind: FaultKind::TooManyRuns,
+            number,
+        });
     }
     if row.len() != head.len() {
-        return Err(PlanFault { code: 4, number });
+        return Err(PlanFault {
+            kind: FaultKind::OtherLength,
+            number,
+        });
     }
     match codes_from(q, values, head, row, first) {
         Some(codes) => Ok(codes),
-        None => Err(PlanFault { code: 5, number }),
+        None => Err(PlanFault {
+            kind: FaultKind::NoLevel,
+            number,
+        }),
     }
 }
 

@@ -25,7 +25,7 @@ use Rattle.fx_program.specs.Stops.{exit_status}
 use Rattle.fx_program.specs.declared.stop.Stop.{Stop}
 use Rattle.fx_program.specs.declared.words.Settings.{Settings}
 use Rattle.fx_program.specs.declared.words.Settings.TheVariants.{Catalogue}
-use Rattle.fx_program.specs.declared.words.WordFault.{WordFault}
+use Rattle.fx_program.specs.declared.word_fault.WordFault.{WordFault}
 use Rattle.fx_program.proofs.CatalogueLines.{line_shape}
 
 -- a line without a design claims that there is none

@@ -12,7 +12,7 @@ use Rattle.fx_base.proofs.Doing.{part_none}
 use Rattle.fx_program.specs.declared.stop.Stop.{Stop}
 use Rattle.fx_program.specs.declared.words.Settings.{Settings}
 use Rattle.fx_program.specs.declared.words.Settings.TheVariants.{Check, Run, Large}
-use Rattle.fx_program.specs.declared.words.WordFault.{WordFault}
+use Rattle.fx_program.specs.declared.word_fault.WordFault.{WordFault}
 use Rattle.fx_program.specs.Stops.{HasCause, exit_status, reading_stop}
 use Rattle.fx_program.specs.Making.{made_text}
 use Rattle.fx_program.specs.Texts.{program_in}

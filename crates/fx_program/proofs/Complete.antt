@@ -16,7 +16,7 @@ use Rattle.fx_program.specs.Stops.{HasStatusCause, SomeRose}
 use Rattle.fx_program.specs.declared.words.Settings.{Settings}
 use Rattle.fx_program.specs.declared.words.Settings.TheVariants.{Run, Plan, Check, Make, Large, Judge, Upgrade}
 use Rattle.fx_program.specs.declared.words.Settings.TheVariants.{Catalogue, Tables}
-use Rattle.fx_program.specs.declared.words.WordFault.{WordFault}
+use Rattle.fx_program.specs.declared.word_fault.WordFault.{WordFault}
 
 -- as far as events have come, they have listed no more bytes than all of them, and shelved no more files
 come-fits : {events : List Event} {listing : List ℕ} {files : List File} → HasCome events listing files

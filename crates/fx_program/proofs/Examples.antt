@@ -5,10 +5,13 @@ use Rattle.std.specs.Fmt.{digits}
 use Rattle.std.proofs.lemmas.List.Elements.{at_from_Contains}
 use Rattle.fx_base.specs.Acts.{File, WholeFile, whole_file}
 use Rattle.fx_base.specs.Memory.{room_of}
+use Rattle.fx_judge.specs.declared.fault.FaultKind.TheVariants.{OtherLength}
 use Rattle.fx_judge.specs.Reading.{plan_fault}
 use Rattle.fx_book.specs.Parts.{lines_of}
 use Rattle.fx_table_book.specs.Texts as tables
 use Rattle.fx_table_book.specs.declared.order.Order.TheVariants.{FactorsFirst, SitterChenFeder}
+use Rattle.fx_program.specs.declared.word_fault.WordFaultKind.TheVariants.{NoWord, UnknownOption, InvalidNumber}
+use Rattle.fx_program.specs.declared.word_fault.WordFaultKind.TheVariants.{MissingNumber}
 use Rattle.fx_program.specs.declared.words.Settings.TheVariants.{Run, Plan, Check, Make, Large, Judge, Upgrade, Tables}
 use Rattle.fx_program.specs.CommandLine.{settings_of}
 use Rattle.fx_program.specs.Words.{word_fault}
@@ -27,13 +30,13 @@ texts_run :
     × ((command_of Check).text_run (Some (codes "x")) ≡ None)
     × ((command_of (Make 2)).text_run (Some (codes "x")) ≡ None)
     × ((command_of (Judge 2)).text_run (Some (codes "x")) ≡ None)
-    × ((command_for (word_fault 1 1)).text_run (Some (codes "x")) ≡ None)
+    × ((command_for (word_fault NoWord 1)).text_run (Some (codes "x")) ≡ None)
 texts_run = (refl, refl, refl, refl, refl, refl)
 
 sources_read :
     ((command_of (Run 1 0)).reads ≡ true) × ((command_of Check).reads ≡ true) × ((command_of (Make 2)).reads ≡ false)
     × ((command_of (Judge 2)).reads ≡ true) × ((command_of (Large 2 1)).reads ≡ false)
-    × ((command_for (word_fault 1 1)).reads ≡ false) × ((command_of Upgrade).reads ≡ true)
+    × ((command_for (word_fault NoWord 1)).reads ≡ false) × ((command_of Upgrade).reads ≡ true)
     × ((command_of (Plan 0)).reads ≡ true)
 sources_read = (refl, refl, refl, refl, refl, refl, refl, refl)
 
@@ -56,8 +59,8 @@ table_read_whole text long = rw long refl
 
 -- a plan that is refused
 refused_plan :
-    (plan_fault_line (plan_fault 4 2) ≡ codes "factex: J4 record 2\n")
-    × ((judged_output (Err (plan_fault 4 2))).status ≡ 3)
+    (plan_fault_line (plan_fault OtherLength 2) ≡ codes "factex: J4 record 2\n")
+    × ((judged_output (Err (plan_fault OtherLength 2))).status ≡ 3)
 unfolding digits
 refused_plan = (refl, refl)
 
@@ -79,8 +82,9 @@ table_words :
     (codes "tables" ∷ codes "2" ∷ codes "4" ∷ codes "4" ∷ codes "--inside=3" ∷ codes "--whole-plots=4"
     ∷ codes "--order=SCF" ∷ [])
     ≡ Ok (Tables (record { q = 2; m = 4; upto = 4; h = 2; inside = 3; order = SitterChenFeder; entries = 1000000 })))
-    × (settings_of (codes "tables" ∷ codes "2" ∷ codes "4" ∷ codes "4" ∷ codes "--inside=3" ∷ []) ≡ word_fault 6 6)
-    × (settings_of (codes "tables" ∷ codes "2" ∷ codes "3" ∷ codes "3" ∷ []) ≡ word_fault 4 4)
+    × (settings_of (codes "tables" ∷ codes "2" ∷ codes "4" ∷ codes "4" ∷ codes "--inside=3" ∷ [])
+    ≡ word_fault MissingNumber 6)
+    × (settings_of (codes "tables" ∷ codes "2" ∷ codes "3" ∷ codes "3" ∷ []) ≡ word_fault InvalidNumber 4)
 unfolding settings_of
 table_words = (refl, refl, refl, refl, refl)
 
@@ -111,9 +115,9 @@ no_step h = (let there = at_from_Contains [] _ (h.some (omega arith)).among in o
 judge_words :
     (settings_of (codes "judge" ∷ codes "2" ∷ []) ≡ Ok (Judge 2))
     × (settings_of (codes "judge" ∷ codes "09" ∷ []) ≡ Ok (Judge 9))
-    × (settings_of (codes "judge" ∷ []) ≡ word_fault 6 2)
-    × (settings_of (codes "judge" ∷ codes "6" ∷ []) ≡ word_fault 4 2)
-    × (settings_of (codes "judge" ∷ codes "6" ∷ codes "x" ∷ []) ≡ word_fault 4 2)
-    × (settings_of (codes "judge" ∷ codes "2" ∷ codes "2" ∷ []) ≡ word_fault 3 3)
+    × (settings_of (codes "judge" ∷ []) ≡ word_fault MissingNumber 2)
+    × (settings_of (codes "judge" ∷ codes "6" ∷ []) ≡ word_fault InvalidNumber 2)
+    × (settings_of (codes "judge" ∷ codes "6" ∷ codes "x" ∷ []) ≡ word_fault InvalidNumber 2)
+    × (settings_of (codes "judge" ∷ codes "2" ∷ codes "2" ∷ []) ≡ word_fault UnknownOption 3)
 unfolding settings_of
 judge_words = (refl, refl, refl, refl, refl, refl)

@@ -3,7 +3,7 @@ use Rattle.std.proofs.Common.{ℕ, ◌≡◌, ◌≤◌, ◌+◌, Option, Some, 
 use Rattle.std.specs.Prelude.{IfOk, IfSome}
 use Rattle.fx_program.specs.declared.words.Extra.TheVariants as extra
 use Rattle.fx_program.specs.declared.words.Options.{Options}
-use Rattle.fx_program.specs.declared.words.WordFault.{WordFault}
+use Rattle.fx_program.specs.declared.word_fault.WordFault.{WordFault}
 use Rattle.fx_program.specs.CommandLine.{AreThreads, IsOfExtra, option_count}
 use Rattle.fx_program.specs.Words.{once}
 

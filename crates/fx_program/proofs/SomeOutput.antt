@@ -3,7 +3,7 @@ use Rattle.std.proofs.Common.{ℕ, ◌+◌, ◌-◌, List, Result, Ok, Err, refl
 use Rattle.fx_program.specs.declared.words.Settings.{Settings}
 use Rattle.fx_program.specs.declared.words.Settings.TheVariants.{Run, Plan, Check, Make, Large, Judge, Upgrade}
 use Rattle.fx_program.specs.declared.words.Settings.TheVariants.{Catalogue, Tables}
-use Rattle.fx_program.specs.declared.words.WordFault.{WordFault}
+use Rattle.fx_program.specs.declared.word_fault.WordFault.{WordFault}
 use Rattle.fx_program.specs.Commands.{Command, command_for}
 use Rattle.fx_program.specs.Output.{Output}
 use Rattle.fx_program.specs.TableWords.{first_line}

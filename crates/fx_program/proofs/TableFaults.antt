@@ -9,10 +9,12 @@ use Rattle.fx_program.specs.declared.table_options.Groups.{Groups}
 use Rattle.fx_program.specs.declared.table_options.Inside.{Inside}
 use Rattle.fx_program.specs.declared.table_options.TableOptions.{TableOptions}
 use Rattle.fx_program.specs.declared.table_words.AskedTable.{AskedTable}
-use Rattle.fx_program.specs.declared.words.WordFault.{WordFault}
+use Rattle.fx_program.specs.declared.word_fault.WordFault.{WordFault}
+use Rattle.fx_program.specs.declared.word_fault.WordFaultKind.TheVariants.{InvalidNumber, MissingNumber}
+use Rattle.fx_program.specs.CommandLine.{IsWordFault}
 use Rattle.fx_program.specs.TableWords as tables
 use Rattle.fx_program.specs.Words.{after_prefix, number_at, once, order_at, order_of, within, word_fault}
-use Rattle.fx_program.proofs.WordPlaces.{IsWithin, Within, either, fault_here, once_within, value_within}
+use Rattle.fx_program.proofs.WordPlaces.{Within, either, fault_here, once_within, value_within}
 
 module _ (last : ℕ) where
   -- options before so many more words
@@ -23,11 +25,11 @@ module _ (last : ℕ) where
 
   abbrev Before : ℕ → Result TableOptions WordFault → Type 0
   Before rest (Ok given) = AreBefore rest given
-  Before rest (Err fault) = IsWithin last fault
+  Before rest (Err fault) = IsWordFault last fault
 
   abbrev Inner : Result Inside WordFault → Type 0
   Inner (Ok x) = (1 ≤ x.word) × (x.word ≤ last)
-  Inner (Err fault) = IsWithin last fault
+  Inner (Err fault) = IsWordFault last fault
 
   module _ (given : TableOptions) (rest : ℕ) (h : AreBefore (suc rest) given) where
     here : given.next ≤ last
@@ -51,14 +53,14 @@ module _ (last : ℕ) where
 
     inner : (earlier : Option Inside) (n : Option ℕ)
         → Inner (once given.next earlier (option_map (tables.inside_with given.next) n))
-    inner (Some x) n = fault_here last given.next h.from here 5 (omega arith) (omega arith)
+    inner (Some x) n = fault_here last given.next h.from here
     inner None (Some n) = (h.from, here)
-    inner None None = fault_here last given.next h.from here 4 (omega arith) (omega arith)
+    inner None None = fault_here last given.next h.from here
 
     by_nodes_before : (digits : Option (List ℕ)) → Before rest (tables.by_nodes given digits)
     by_nodes_before (Some digits) =
         nodes_before _ (once_within last given.next h.from here given.nodes (within 1 5000000 digits))
-    by_nodes_before None = fault_here last given.next h.from here 3 (omega arith) (omega arith)
+    by_nodes_before None = fault_here last given.next h.from here
 
     by_order_before : (word : List ℕ) (name : Option (List ℕ)) → Before rest (tables.by_order given word name)
     by_order_before word (Some name) =
@@ -96,19 +98,19 @@ module _ (last : ℕ) where
       (nat_le (tables.first_line asked) asked.upto
       && (nat_le (asked.upto + asked.inside) (most_factors_of asked.q false)
       && nat_le (asked.q ^ (asked.upto + asked.inside)) (2 ^ 120)))
-      (Ok asked) (word_fault 4 4) tt (fault_here last 4 (omega arith) fits 4 (omega arith) (omega arith))
+      (Ok asked) (word_fault InvalidNumber 4) tt (fault_here last 4 (omega arith) fits)
 
   module _ (q m most : ℕ) (fits : 4 ≤ last) (given : TableOptions) (h : AreBefore 0 given) where
-    missing : IsWithin last (record { code = 6; word = given.next })
-    missing = fault_here last given.next h.from (omega (arith, h.to)) 6 (omega arith) (omega arith)
+    missing : IsWordFault last (record { kind = MissingNumber; word = given.next })
+    missing = fault_here last given.next h.from (omega (arith, h.to))
 
     inside_within : (d : ℕ) (inside : Option Inside) → IfSome inside (λ x. (1 ≤ x.word) × (x.word ≤ last))
         → Within last (tables.with_inside q m most given d inside)
     inside_within d None w = missing
     inside_within d (Some x) w =
         either last (tables.can_span q d x.count) (tables.limited (tables.asked_by q m most given d x.count))
-        (word_fault 4 x.word) (limited_within (tables.asked_by q m most given d x.count) fits)
-        (fault_here last x.word w.0 w.1 4 (omega arith) (omega arith))
+        (word_fault InvalidNumber x.word) (limited_within (tables.asked_by q m most given d x.count) fits)
+        (fault_here last x.word w.0 w.1)
 
     outside_within : (d : ℕ) (inside : Option Inside) → Within last (tables.without_inside q m most given d inside)
     outside_within d None = limited_within (tables.asked_by q m most given d 0) fits
@@ -135,7 +137,7 @@ module _ (last : ℕ) where
 
   with_indexes_within : (q m : ℕ) (words : List (List ℕ)) → length words + 4 ≤ last
       → Within last (tables.with_indexes q m words)
-  with_indexes_within q m [] fits = fault_here last 4 (omega arith) (omega (arith, fits)) 6 (omega arith) (omega arith)
+  with_indexes_within q m [] fits = fault_here last 4 (omega arith) (omega (arith, fits))
   with_indexes_within q m (word ∷ options) fits =
       factors_within q m options (number_at 4 1 (most_factors_of q false) word) (omega (arith, fits))
       (value_within last 4 (omega arith) (omega (arith, fits)) (within 1 (most_factors_of q false) word))
@@ -147,7 +149,7 @@ module _ (last : ℕ) where
 
   with_levels_within : (q : ℕ) (words : List (List ℕ)) → length words + 3 ≤ last
       → Within last (tables.with_levels q words)
-  with_levels_within q [] fits = fault_here last 3 (omega arith) (omega (arith, fits)) 6 (omega arith) (omega arith)
+  with_levels_within q [] fits = fault_here last 3 (omega arith) (omega (arith, fits))
   with_levels_within q (word ∷ words) fits =
       indexes_within q words (number_at 3 1 (greatest q) word) (omega (arith, fits))
       (value_within last 3 (omega arith) (omega (arith, fits)) (within 1 (greatest q) word))
@@ -158,7 +160,7 @@ module _ (last : ℕ) where
   levels_within words (Ok q) fits h = with_levels_within q words fits
 
   asked_within : (words : List (List ℕ)) → length words + 2 ≤ last → Within last (tables.asked_of words)
-  asked_within [] fits = fault_here last 2 (omega arith) (omega (arith, fits)) 6 (omega arith) (omega arith)
+  asked_within [] fits = fault_here last 2 (omega arith) (omega (arith, fits))
   asked_within (word ∷ words) fits =
       levels_within words (order_at 2 word) (omega (arith, fits))
       (value_within last 2 (omega arith) (omega (arith, fits)) (order_of word))

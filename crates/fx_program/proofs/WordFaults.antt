@@ -1,4 +1,4 @@
--- A fault of the words is of one of the six codes, at a word.
+-- A fault of the words is at one of them, or where one more would be.
 use Rattle.std.proofs.Common.{ℕ, ◌≡◌, ◌≤◌, ◌+◌, ◌-◌, ◌^◌, false, List, [], ◌∷◌, length, arith, subst}
 use Rattle.std.proofs.Common.{sym}
 use Rattle.std.specs.Prelude.{Option, Some, None, Result, Ok, Err, IfErr, codes}
@@ -9,7 +9,7 @@ use Rattle.fx_program.specs.declared.words.Extra.{Extra}
 use Rattle.fx_program.specs.declared.words.Extra.TheVariants as extra
 use Rattle.fx_program.specs.declared.words.Options.{Options}
 use Rattle.fx_program.specs.declared.words.Settings.{Settings}
-use Rattle.fx_program.specs.declared.words.WordFault.{WordFault}
+use Rattle.fx_program.specs.declared.word_fault.WordFault.{WordFault}
 use Rattle.fx_program.specs.CommandLine
 use Rattle.fx_program.specs.Words
 use Rattle.fx_program.proofs.WordPlaces.{Within, either, fault_here, once_within, value_within}
@@ -30,11 +30,11 @@ module _ (last place : ℕ) (from : 1 ≤ place) (to : place ≤ last) where
       → Within last (CommandLine.extra_by place given low high digits)
   extra_by_within given low high (Some digits) =
       extra_within given _ (once_within last place from to given.extra (Words.within low high digits))
-  extra_by_within given low high None = fault_here last place from to 3 (omega arith) (omega arith)
+  extra_by_within given low high None = fault_here last place from to
 
   allowed_within : (allowed : Extra) (given : Options) (word : List ℕ)
       → Within last (CommandLine.allowed_extra place allowed given word)
-  allowed_within extra.Nothing given word = fault_here last place from to 3 (omega arith) (omega arith)
+  allowed_within extra.Nothing given word = fault_here last place from to
   allowed_within extra.Seed given word = extra_by_within given 0 (2 ^ 64 - 1) _
   allowed_within extra.SeedAlone given word = extra_by_within given 0 (2 ^ 64 - 1) _
   allowed_within extra.Nodes given word = extra_by_within given 1 5000000 _
@@ -72,14 +72,14 @@ without_within : (last : ℕ) (settings : Settings) (options : List (List ℕ)) 
     → Within last (CommandLine.without_options settings options)
 without_within last settings [] fits = tt
 without_within last settings (other ∷ others) fits =
-    fault_here last 2 (omega arith) (omega (arith, fits)) 3 (omega arith) (omega arith)
+    fault_here last 2 (omega arith) (omega (arith, fits))
 
 alone_within : (last : ℕ) (others : List (List ℕ)) (r : Result ℕ WordFault) → length others + 3 ≤ last + 1
     → Within last r → Within last (CommandLine.alone others r)
 alone_within last others (Err fault) fits h = h
 alone_within last [] (Ok n) fits h = tt
 alone_within last (other ∷ others) (Ok n) fits h =
-    fault_here last 3 (omega arith) (omega (arith, fits)) 3 (omega arith) (omega arith)
+    fault_here last 3 (omega arith) (omega (arith, fits))
 
 made_within : (last : ℕ) (r : Result ℕ WordFault) → Within last r → Within last (CommandLine.made_by r)
 made_within last (Ok n) h = tt
@@ -87,7 +87,7 @@ made_within last (Err fault) h = h
 
 make_within : (last : ℕ) (options : List (List ℕ)) → length options + 2 ≤ last → 2 ≤ last
     → Within last (CommandLine.make_with options)
-make_within last [] fits some = fault_here last 2 (omega arith) some 6 (omega arith) (omega arith)
+make_within last [] fits some = fault_here last 2 (omega arith) some
 make_within last (word ∷ others) fits some =
     made_within last _ (alone_within last others _ (omega (arith, fits))
     (value_within last 2 (omega arith) some (Words.within 1 100 word)))
@@ -104,7 +104,7 @@ large_behind_within last others (Ok n) fits h =
 
 large_within : (last : ℕ) (options : List (List ℕ)) → length options + 2 ≤ last → 2 ≤ last
     → Within last (CommandLine.large_with options)
-large_within last [] fits some = fault_here last 2 (omega arith) some 6 (omega arith) (omega arith)
+large_within last [] fits some = fault_here last 2 (omega arith) some
 large_within last (word ∷ others) fits some =
     large_behind_within last others _ (omega (arith, fits))
     (value_within last 2 (omega arith) some (Words.within 1 100 word))
@@ -115,7 +115,7 @@ judged_within last (Err fault) h = h
 
 judge_within : (last : ℕ) (options : List (List ℕ)) → length options + 2 ≤ last → 2 ≤ last
     → Within last (CommandLine.judge_with options)
-judge_within last [] fits some = fault_here last 2 (omega arith) some 6 (omega arith) (omega arith)
+judge_within last [] fits some = fault_here last 2 (omega arith) some
 judge_within last (word ∷ others) fits some =
     judged_within last _ (alone_within last others _ (omega (arith, fits))
     (value_within last 2 (omega arith) some (Words.order_of word)))
@@ -134,7 +134,7 @@ catalogue_options_within last q m options (Ok most) fits h =
 catalogue_factors_within : (last q m : ℕ) (words : List (List ℕ)) → length words + 4 ≤ last
     → Within last (CommandLine.factors_of_catalogue q m words)
 catalogue_factors_within last q m [] fits =
-    fault_here last 4 (omega arith) (omega (arith, fits)) 6 (omega arith) (omega arith)
+    fault_here last 4 (omega arith) (omega (arith, fits))
 catalogue_factors_within last q m (word ∷ options) fits =
     catalogue_options_within last q m options _ (omega (arith, fits))
     (value_within last 4 (omega arith) (omega (arith, fits))
@@ -148,7 +148,7 @@ behind_indexes_within last q words (Ok m) fits h = catalogue_factors_within last
 catalogue_indexes_within : (last q : ℕ) (words : List (List ℕ)) → length words + 3 ≤ last
     → Within last (CommandLine.indexes_of_catalogue q words)
 catalogue_indexes_within last q [] fits =
-    fault_here last 3 (omega arith) (omega (arith, fits)) 6 (omega arith) (omega arith)
+    fault_here last 3 (omega arith) (omega (arith, fits))
 catalogue_indexes_within last q (word ∷ words) fits =
     behind_indexes_within last q words _ (omega (arith, fits))
     (value_within last 3 (omega arith) (omega (arith, fits)) (Words.within 1 (greatest q) word))
@@ -160,7 +160,7 @@ behind_levels_within last words (Ok q) fits h = catalogue_indexes_within last q 
 
 catalogue_within : (last : ℕ) (words : List (List ℕ)) → length words + 2 ≤ last
     → Within last (CommandLine.catalogue_with words)
-catalogue_within last [] fits = fault_here last 2 (omega arith) (omega (arith, fits)) 6 (omega arith) (omega arith)
+catalogue_within last [] fits = fault_here last 2 (omega arith) (omega (arith, fits))
 catalogue_within last (word ∷ words) fits =
     behind_levels_within last words _ (omega (arith, fits))
     (value_within last 2 (omega arith) (omega (arith, fits)) (Words.order_of word))
@@ -180,18 +180,13 @@ command_within last word options fits =
     (either last (bytes_eq word (codes "judge")) _ _ (judge_within last options fits some)
     (either last (bytes_eq word (codes "catalogue")) _ _ (catalogue_within last options fits)
     (either last (bytes_eq word (codes "tables")) _ _ (tables_within last options fits)
-    (fault_here last 1 (omega arith) (omega (arith, some)) 2 (omega arith) (omega arith))))))))))
+    (fault_here last 1 (omega arith) (omega (arith, some)))))))))))
 
 settings_within : (words : List (List ℕ)) → Within (length words + 1) (CommandLine.settings_of words)
 unfolding CommandLine.settings_of
-settings_within [] = fault_here 1 1 (omega arith) (omega arith) 1 (omega arith) (omega arith)
+settings_within [] = fault_here 1 1 (omega arith) (omega arith)
 settings_within (word ∷ options) = command_within (length (word ∷ options) + 1) word options (omega arith)
 
 pub words-fault : (words : List (List ℕ)) (r : Result Settings WordFault) → r ≡ CommandLine.settings_of words
-    → IfErr r (CommandLine.IsWordFault words)
-words-fault words r is =
-    weaker r (subst (Within (length words + 1)) (sym is) (settings_within words))
-  where
-    weaker : (r : Result Settings WordFault) → Within (length words + 1) r → IfErr r (CommandLine.IsWordFault words)
-    weaker (Ok settings) h = tt
-    weaker (Err fault) h = record { code = h.code; word = h.word }
+    → Within (length words + 1) r
+words-fault words r is = subst (Within (length words + 1)) (sym is) (settings_within words)

@@ -12,8 +12,10 @@ use Rattle.fx_program.specs.declared.words.Options.{Options}
 use Rattle.fx_program.specs.declared.words.Settings.{Settings}
 use Rattle.fx_program.specs.declared.words.Settings.TheVariants.{Run, Plan, Check, Make, Large, Judge, Upgrade}
 use Rattle.fx_program.specs.declared.words.Settings.TheVariants.{Catalogue, Tables}
-use Rattle.fx_program.specs.declared.words.WordFault.{WordFault}
-use Rattle.fx_program.specs.Words.{after_prefix, number_at, once, order_at, within, word_fault}
+use Rattle.fx_program.specs.declared.word_fault.WordFault.{WordFault}
+use Rattle.fx_program.specs.declared.word_fault.WordFaultKind.TheVariants.{NoWord, UnknownCommand, UnknownOption}
+use Rattle.fx_program.specs.declared.word_fault.WordFaultKind.TheVariants.{MissingNumber}
+use Rattle.fx_program.specs.Words.{after_prefix, code_of, number_at, once, order_at, within, word_fault}
 use Rattle.fx_program.specs.TableWords.{IsAsked, tables_with}
 
 -- the bytes of each word
@@ -29,18 +31,18 @@ abbrev pub add_extra : Options → Result ℕ WordFault → Result Options WordF
 add_extra given (Ok n) = Ok (record { threads = given.threads; extra = Some n })
 add_extra given (Err fault) = Err fault
 
--- the options with an extra one of the word at this place, within these limits, by what follows its name; 3 where the
--- word does not begin so
+-- the options with an extra one of the word at this place, within these limits, by what follows its name, or a
+-- fault where the word does not begin so
 abbrev pub extra_by : ℕ → Options → ℕ → ℕ → Option (List ℕ) → Result Options WordFault
 extra_by place given low high (Some digits) = add_extra given (once place given.extra (within low high digits))
-extra_by place given low high None = word_fault 3 place
+extra_by place given low high None = word_fault UnknownOption place
 
 abbrev pub with_extra : ℕ → Options → List ℕ → ℕ → ℕ → List ℕ → Result Options WordFault
 with_extra place given name low high word = extra_by place given low high (after_prefix name word)
 
 -- the same of a seed, a number below 2^64, or of a number of nodes, for a command that allows this
 abbrev pub allowed_extra : ℕ → Extra → Options → List ℕ → Result Options WordFault
-allowed_extra place extra.Nothing given word = word_fault 3 place
+allowed_extra place extra.Nothing given word = word_fault UnknownOption place
 allowed_extra place extra.Seed given word = with_extra place given (codes "--seed=") 0 (2 ^ 64 - 1) word
 allowed_extra place extra.SeedAlone given word = with_extra place given (codes "--seed=") 0 (2 ^ 64 - 1) word
 allowed_extra place extra.Nodes given word = with_extra place given (codes "--nodes=") 1 5000000 word
@@ -91,7 +93,7 @@ steps_at place word = number_at place 1 100 word
 abbrev pub alone : List (List ℕ) → Result ℕ WordFault → Result ℕ WordFault
 alone others (Err fault) = Err fault
 alone [] (Ok n) = Ok n
-alone (other ∷ others) (Ok n) = word_fault 3 3
+alone (other ∷ others) (Ok n) = word_fault UnknownOption 3
 
 -- the settings of `make`: the number of steps is the one word after the command
 abbrev pub made_by : Result ℕ WordFault → Result Settings WordFault
@@ -99,7 +101,7 @@ made_by (Err fault) = Err fault
 made_by (Ok n) = Ok (Make n)
 
 abbrev pub make_with : List (List ℕ) → Result Settings WordFault
-make_with [] = word_fault 6 2
+make_with [] = word_fault MissingNumber 2
 make_with (word ∷ others) = made_by (alone others (steps_at 2 word))
 
 -- the settings of `large`: the number of steps, and then at most the number of threads
@@ -112,7 +114,7 @@ large_behind others (Err fault) = Err fault
 large_behind others (Ok n) = large_by n (options_in 3 extra.Nothing others)
 
 abbrev pub large_with : List (List ℕ) → Result Settings WordFault
-large_with [] = word_fault 6 2
+large_with [] = word_fault MissingNumber 2
 large_with (word ∷ others) = large_behind others (steps_at 2 word)
 
 -- the settings of `judge`: the number of levels is the one word after the command
@@ -121,7 +123,7 @@ judged_by (Err fault) = Err fault
 judged_by (Ok q) = Ok (Judge q)
 
 abbrev pub judge_with : List (List ℕ) → Result Settings WordFault
-judge_with [] = word_fault 6 2
+judge_with [] = word_fault MissingNumber 2
 judge_with (word ∷ others) = judged_by (alone others (order_at 2 word))
 
 -- The settings of `catalogue`: the numbers of levels, of run indexes and of the most factors, and then the options,
@@ -135,7 +137,7 @@ options_of_catalogue q m options (Err fault) = Err fault
 options_of_catalogue q m options (Ok most) = catalogue_by q m most (options_in 5 extra.Nodes options)
 
 abbrev pub factors_of_catalogue : ℕ → ℕ → List (List ℕ) → Result Settings WordFault
-factors_of_catalogue q m [] = word_fault 6 4
+factors_of_catalogue q m [] = word_fault MissingNumber 4
 factors_of_catalogue q m (word ∷ options) =
     options_of_catalogue q m options (number_at 4 (m + 1) (most_factors_of q false) word)
 
@@ -144,7 +146,7 @@ behind_indexes q words (Err fault) = Err fault
 behind_indexes q words (Ok m) = factors_of_catalogue q m words
 
 abbrev pub indexes_of_catalogue : ℕ → List (List ℕ) → Result Settings WordFault
-indexes_of_catalogue q [] = word_fault 6 3
+indexes_of_catalogue q [] = word_fault MissingNumber 3
 indexes_of_catalogue q (word ∷ words) = behind_indexes q words (number_at 3 1 (greatest q) word)
 
 abbrev pub behind_levels : List (List ℕ) → Result ℕ WordFault → Result Settings WordFault
@@ -152,13 +154,13 @@ behind_levels words (Err fault) = Err fault
 behind_levels words (Ok q) = indexes_of_catalogue q words
 
 abbrev pub catalogue_with : List (List ℕ) → Result Settings WordFault
-catalogue_with [] = word_fault 6 2
+catalogue_with [] = word_fault MissingNumber 2
 catalogue_with (word ∷ words) = behind_levels words (order_at 2 word)
 
 -- these settings, for a command that no word follows
 abbrev pub without_options : Settings → List (List ℕ) → Result Settings WordFault
 without_options settings [] = Ok settings
-without_options settings (other ∷ others) = word_fault 3 2
+without_options settings (other ∷ others) = word_fault UnknownOption 2
 
 -- the settings of a command with these options
 abbrev pub command_with : List ℕ → List (List ℕ) → Result Settings WordFault
@@ -179,19 +181,16 @@ command_with word options =
     then judge_with options
     else (if bytes_eq word (codes "catalogue")
     then catalogue_with options
-    else (if bytes_eq word (codes "tables") then tables_with options else word_fault 2 1)))))))))
+    else (if bytes_eq word (codes "tables") then tables_with options else word_fault UnknownCommand 1)))))))))
 
--- 1: there is no word. 2: the first word is no command. 3: a word is no option of the command. 4: a number is none of 1
--- to 20 digits, or is not in its range, or an order has another name. 5: the option is repeated. 6: a number of `make`,
--- `large`, `judge`, `catalogue` or `tables` is missing, or `--inside` without `--whole-plots`, or the reverse.
+-- the settings, or the first fault of the words
 unfoldable pub settings_of : List (List ℕ) → Result Settings WordFault
-settings_of [] = word_fault 1 1
+settings_of [] = word_fault NoWord 1
 settings_of (word ∷ options) = command_with word options
 
--- a fault of these words: of one of the six codes, at one of them or where one more would be
-pub record IsWordFault (words : List (List ℕ)) (fault : WordFault) : Type 0 where
-  pub code : (1 ≤ fault.code) × (fault.code ≤ 6)
-  pub word : (1 ≤ fault.word) × (fault.word ≤ length words + 1)
+-- a fault at a word from 1 to the last
+pub record IsWordFault (last : ℕ) (fault : WordFault) : Type 0 where
+  pub word : (1 ≤ fault.word) × (fault.word ≤ last)
 
 -- from 1 to 64 threads
 abbrev pub AreThreads : ℕ → Type 0
@@ -231,4 +230,5 @@ HasShapes _ = Unit {0}
 
 -- the line that tells the fault: its code, and at which word
 abbrev pub word_line : WordFault → List ℕ
-word_line fault = codes "factex: C" ++ decimal fault.code ++ codes " word " ++ decimal fault.word ++ codes "\n"
+word_line fault =
+    codes "factex: C" ++ decimal (code_of fault.kind) ++ codes " word " ++ decimal fault.word ++ codes "\n"

@@ -18,7 +18,7 @@ use Rattle.fx_program.specs.Output.{Output, large_output, message, program_outpu
 use Rattle.fx_program.specs.declared.words.Settings.{Settings}
 use Rattle.fx_program.specs.declared.words.Settings.TheVariants.{Run, Plan, Check, Make, Large, Judge, Upgrade}
 use Rattle.fx_program.specs.declared.words.Settings.TheVariants.{Catalogue, Tables}
-use Rattle.fx_program.specs.declared.words.WordFault.{WordFault}
+use Rattle.fx_program.specs.declared.word_fault.WordFault.{WordFault}
 
 -- A command: what it can give for a text of the source; whether it reads the source, and whether it reads such a text
 -- to its end; and the text of the program that it runs, by what the source exposes.

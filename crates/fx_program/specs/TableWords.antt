@@ -13,7 +13,8 @@ use Rattle.fx_table_book.specs.declared.order.Order.{Order}
 use Rattle.fx_table_book.specs.declared.order.Order.TheVariants.{FactorsFirst, ChengWuFirst, ChengWuSecond}
 use Rattle.fx_table_book.specs.declared.order.Order.TheVariants.{SitterChenFeder, MostClear}
 use Rattle.fx_program.specs.Words.{after_prefix, number_at, once, order_at, within, word_fault}
-use Rattle.fx_program.specs.declared.words.WordFault.{WordFault}
+use Rattle.fx_program.specs.declared.word_fault.WordFault.{WordFault}
+use Rattle.fx_program.specs.declared.word_fault.WordFaultKind.TheVariants.{UnknownOption, InvalidNumber, MissingNumber}
 use Rattle.fx_program.specs.declared.table_options.Groups.{Groups}
 use Rattle.fx_program.specs.declared.table_options.Inside.{Inside}
 use Rattle.fx_program.specs.declared.table_options.TableOptions.{TableOptions}
@@ -94,10 +95,11 @@ add_nodes given (Ok x) =
       nodes = Some x;
     })
 
--- the options with that of the next word, by what follows a name in it; 3 where it begins with none of the names
+-- the options with that of the next word, by what follows a name in it, or a fault where it begins
+-- with none of the names
 abbrev pub by_nodes : TableOptions → Option (List ℕ) → Result TableOptions WordFault
 by_nodes given (Some digits) = add_nodes given (once given.next given.nodes (within 1 5000000 digits))
-by_nodes given None = word_fault 3 given.next
+by_nodes given None = word_fault UnknownOption given.next
 
 abbrev pub by_order : TableOptions → List ℕ → Option (List ℕ) → Result TableOptions WordFault
 by_order given word (Some name) = add_order given (once given.next given.order (order_named name))
@@ -151,7 +153,7 @@ limited asked =
     && (nat_le (asked.upto + asked.inside) (most_factors_of asked.q false)
     && nat_le (asked.q ^ (asked.upto + asked.inside)) (2 ^ 120))
     then Ok asked
-    else word_fault 4 4)
+    else word_fault InvalidNumber 4)
 
 -- with these options, and 1,000,000 entries where no option says it
 abbrev pub asked_by : ℕ → ℕ → ℕ → TableOptions → ℕ → ℕ → AskedTable
@@ -172,14 +174,15 @@ can_span q h n = nat_le h n && nat_lt (n * (q - 1)) (q ^ h)
 
 -- whole plots have factors inside
 abbrev pub with_inside : ℕ → ℕ → ℕ → TableOptions → ℕ → Option Inside → Result AskedTable WordFault
-with_inside q m most given h None = word_fault 6 given.next
+with_inside q m most given h None = word_fault MissingNumber given.next
 with_inside q m most given h (Some inside) =
-    (if can_span q h inside.count then limited (asked_by q m most given h inside.count) else word_fault 4 inside.word)
+    (if can_span q h inside.count
+    then limited (asked_by q m most given h inside.count) else word_fault InvalidNumber inside.word)
 
 -- others do not
 abbrev pub without_inside : ℕ → ℕ → ℕ → TableOptions → ℕ → Option Inside → Result AskedTable WordFault
 without_inside q m most given h None = limited (asked_by q m most given h 0)
-without_inside q m most given h (Some inside) = word_fault 6 given.next
+without_inside q m most given h (Some inside) = word_fault MissingNumber given.next
 
 abbrev pub by_groups : ℕ → ℕ → ℕ → TableOptions → Option Groups → Result AskedTable WordFault
 by_groups q m most given None = without_inside q m most given 0 given.inside
@@ -197,7 +200,7 @@ behind_factors q m options (Err fault) = Err fault
 behind_factors q m options (Ok most) = by_options q m most (options_behind q m (Ok no_options) options)
 
 abbrev pub with_indexes : ℕ → ℕ → List (List ℕ) → Result AskedTable WordFault
-with_indexes q m [] = word_fault 6 4
+with_indexes q m [] = word_fault MissingNumber 4
 with_indexes q m (word ∷ options) = behind_factors q m options (number_at 4 1 (most_factors_of q false) word)
 
 abbrev pub behind_indexes : ℕ → List (List ℕ) → Result ℕ WordFault → Result AskedTable WordFault
@@ -205,7 +208,7 @@ behind_indexes q words (Err fault) = Err fault
 behind_indexes q words (Ok m) = with_indexes q m words
 
 abbrev pub with_levels : ℕ → List (List ℕ) → Result AskedTable WordFault
-with_levels q [] = word_fault 6 3
+with_levels q [] = word_fault MissingNumber 3
 with_levels q (word ∷ words) = behind_indexes q words (number_at 3 1 (greatest q) word)
 
 abbrev pub behind_levels : List (List ℕ) → Result ℕ WordFault → Result AskedTable WordFault
@@ -214,7 +217,7 @@ behind_levels words (Ok q) = with_levels q words
 
 -- the numbers of levels, of run indexes and of the most factors outside the base, and then the options
 abbrev pub asked_of : List (List ℕ) → Result AskedTable WordFault
-asked_of [] = word_fault 6 2
+asked_of [] = word_fault MissingNumber 2
 asked_of (word ∷ words) = behind_levels words (order_at 2 word)
 
 abbrev pub table_for : Result AskedTable WordFault → Result Settings WordFault

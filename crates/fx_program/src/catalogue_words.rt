@@ -12,8 +12,8 @@ ghost use Rattle.fx_program.specs.CommandLine.{
   indexes_of_catalogue,
 };
 
-use crate::word_code;
-use crate::words::{Extra, Settings, WordFault, number_at, options_in, order_at};
+use crate::word_fault::{WordFault, WordFaultKind};
+use crate::words::{Extra, Settings, number_at, options_in, order_at};
 use fx_settings::greatest;
 use fx_vectors::{MOST_FACTORS, MOST_FACTORS_OF_MANY_LEVELS};
 
@@ -30,7 +30,7 @@ pub(crate) fn catalogue_with(words: &[Vec<u8>]) -> Result<Settings, WordFault>
 {
     let Some((word, others)) = words.split_first() else {
         return Err(WordFault {
-            code: word_code::MISSING_NUMBER,
+            kind: WordFaultKind::MissingNumber,
             word: 2,
         });
     };
@@ -48,7 +48,7 @@ fn with_levels(q: u8, words: &[Vec<u8>]) -> Result<Settings, WordFault>
 {
     let Some((word, others)) = words.split_first() else {
         return Err(WordFault {
-            code: word_code::MISSING_NUMBER,
+            kind: WordFaultKind::MissingNumber,
             word: 3,
         });
     };
@@ -67,7 +67,7 @@ fn with_indexes(q: u8, m: u8, words: &[Vec<u8>]) -> Result<Settings, WordFault>
 {
     let Some((word, options)) = words.split_first() else {
         return Err(WordFault {
-            code: word_code::MISSING_NUMBER,
+            kind: WordFaultKind::MissingNumber,
             word: 4,
         });
     };

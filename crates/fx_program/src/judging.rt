@@ -18,14 +18,17 @@ use crate::listing::list;
 use crate::stop::{REFUSED, Stop};
 use fx_base::{Bytes, NoMemory, Sink, Source, Taken, put, put_number, read_all};
 use fx_galois::Field;
-use fx_judge::{Plan, PlanFault, PlanStop, judge_listing, read_plan};
+use fx_judge::{FaultKind, Plan, PlanFault, PlanStop, judge_listing, read_plan};
 use std::alloc::Global;
 
 /// The greatest number of bytes of a plan that was made elsewhere.
 const PLAN_LIMIT: usize = 1048576;
 
 /// The fault of a text that is longer than that.
-const TOO_LONG: PlanFault = PlanFault { code: 1, number: 1 };
+const TOO_LONG: PlanFault = PlanFault {
+    kind: FaultKind::TooLong,
+    number: 1,
+};
 
 /// The command `judge`, at these levels: reads a plan that was made elsewhere, and lists what its runs
 /// show.
@@ -87,7 +90,7 @@ fn put_plan_fault(out: &mut Bytes, fault: PlanFault) -> Result<(), NoMemory>
     ensures { OnOk result (out.new ≡ out.old ++ plan_fault_line fault) }
 {
     put(out, b"factex: J")?;
-    put_number(out, u128::from(fault.code))?;
+    put_number(out, u128::from(fault.kind.code()))?;
     put(out, b" record ")?;
     put_number(out, u128::from(fault.number))?;
     put(out, b"\n")

@@ -28,7 +28,7 @@ mod table_words;
 mod tabulating;
 mod text;
 mod upgrading;
-pub mod word_code;
+mod word_fault;
 mod words;
 
 pub use making::make_text;
@@ -36,4 +36,5 @@ pub use run::factex;
 pub use stop::{NO_MEMORY, Stop, exit_status};
 pub use table_words::AskedTable;
 pub use text::{TextFault, TextStop, read_program};
-pub use words::{Settings, WordFault, read_words, word_line};
+pub use word_fault::{WordFault, WordFaultKind};
+pub use words::{Settings, read_words, word_line};

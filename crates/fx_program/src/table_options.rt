@@ -20,8 +20,8 @@ ghost use Rattle.fx_program.specs.TableWords.{
   with_option,
 };
 
-use crate::word_code;
-use crate::words::{WordFault, once, within};
+use crate::word_fault::{WordFault, WordFaultKind};
+use crate::words::{once, within};
 use fx_book::is_word;
 use fx_table_book::Order;
 use fx_table_lines::is_power;
@@ -145,7 +145,7 @@ fn by_nodes(m: u8, given: TableOptions, word: &[u8]) -> Result<TableOptions, Wor
     match word.strip_prefix(NODES) {
         Some(digits) => add_nodes(m, given, within(1, MOST_ENTRIES, digits)),
         None => Err(WordFault {
-            code: word_code::UNKNOWN_OPTION,
+            kind: WordFaultKind::UnknownOption,
             word: given.next,
         }),
     }

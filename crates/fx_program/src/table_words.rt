@@ -22,8 +22,8 @@ ghost use Rattle.fx_program.specs.TableWords.{
 
 use crate::catalogue_words::most_factors;
 use crate::table_options::{TableOptions, options_in};
-use crate::word_code;
-use crate::words::{Settings, WordFault, number_at, order_at};
+use crate::word_fault::{WordFault, WordFaultKind};
+use crate::words::{Settings, number_at, order_at};
 use fx_settings::greatest;
 use fx_table_book::Order;
 
@@ -238,20 +238,20 @@ fn has_few_words(q: u8, factors: u8) -> bool
 
 /// A number is missing at this place.
 fn missing(word: u32) -> WordFault
-    ensures { result ≡ record { code = 6; word = word } }
+    ensures { result ≡ record { kind = WordFaultKind.MissingNumber; word = word } }
 {
     WordFault {
-        code: word_code::MISSING_NUMBER,
+        kind: WordFaultKind::MissingNumber,
         word,
     }
 }
 
 /// The number of the word at this place is none, or not in its range.
 fn invalid(word: u32) -> WordFault
-    ensures { result ≡ record { code = 4; word = word } }
+    ensures { result ≡ record { kind = WordFaultKind.InvalidNumber; word = word } }
 {
     WordFault {
-        code: word_code::INVALID_NUMBER,
+        kind: WordFaultKind::InvalidNumber,
         word,
     }
 }

@@ -9,7 +9,7 @@ ghost use Rattle.fx_program.specs.declared.words.Extra.TheVariants as extra;
 
 use crate::catalogue_words::catalogue_with;
 use crate::table_words::{AskedTable, tables_with};
-use crate::word_code;
+use crate::word_fault::{WordFault, WordFaultKind};
 use arrayvec::ArrayVec;
 use fx_galois::Field;
 use fx_text::number;
@@ -83,27 +83,18 @@ pub enum Settings {
     },
 }
 
-/// Why the words are refused.
-#[derive(Clone, Copy, PartialEq, Eq)]
-pub struct WordFault {
-    /// One of `word_code`.
-    pub code: u8,
-    /// Which word, counted from 1; where one is missing, its place.
-    pub word: u32,
-}
-
 /// The settings that the words ask for, or the first fault. Takes no memory.
 pub fn read_words(words: &[Vec<u8>]) -> Result<Settings, WordFault>
     ensures settings { result ≡ settings_of (bytes_of words.now) }
     ensures threads { IfOk result HasThreads }
     ensures order { IfOk result HasOrder }
     ensures shapes { IfOk result HasShapes }
-    ensures fault { IfErr result (IsWordFault (bytes_of words.now)) }
+    ensures fault { IfErr result (IsWordFault (length (bytes_of words.now) + 1)) }
 {
     match words.split_first() {
         Some((command, options)) => command_with(command.as_slice(), options),
         None => Err(WordFault {
-            code: word_code::NO_WORD,
+            kind: WordFaultKind::NoWord,
             word: 1,
         }),
     }
@@ -161,7 +152,7 @@ fn command_with(command: &[u8], options: &[Vec<u8>]) -> Result<Settings, WordFau
         return tables_with(options);
     }
     Err(WordFault {
-        code: word_code::UNKNOWN_COMMAND,
+        kind: WordFaultKind::UnknownCommand,
         word: 1,
     })
 }
@@ -202,7 +193,7 @@ fn without_options(settings: Settings, options: &[Vec<u8>]) -> Result<Settings, 
         Ok(settings)
     } else {
         Err(WordFault {
-            code: word_code::UNKNOWN_OPTION,
+            kind: WordFaultKind::UnknownOption,
             word: 2,
         })
     }
@@ -217,7 +208,7 @@ fn make_with(words: &[Vec<u8>]) -> Result<Settings, WordFault>
 {
     let Some((word, others)) = words.split_first() else {
         return Err(WordFault {
-            code: word_code::MISSING_NUMBER,
+            kind: WordFaultKind::MissingNumber,
             word: 2,
         });
     };
@@ -226,7 +217,7 @@ fn make_with(words: &[Vec<u8>]) -> Result<Settings, WordFault>
         Ok(Settings::Make { n })
     } else {
         Err(WordFault {
-            code: word_code::UNKNOWN_OPTION,
+            kind: WordFaultKind::UnknownOption,
             word: 3,
         })
     }
@@ -241,7 +232,7 @@ fn large_with(words: &[Vec<u8>]) -> Result<Settings, WordFault>
 {
     let Some((word, others)) = words.split_first() else {
         return Err(WordFault {
-            code: word_code::MISSING_NUMBER,
+            kind: WordFaultKind::MissingNumber,
             word: 2,
         });
     };
@@ -262,7 +253,7 @@ fn judge_with(words: &[Vec<u8>]) -> Result<Settings, WordFault>
 {
     let Some((word, others)) = words.split_first() else {
         return Err(WordFault {
-            code: word_code::MISSING_NUMBER,
+            kind: WordFaultKind::MissingNumber,
             word: 2,
         });
     };
@@ -271,7 +262,7 @@ fn judge_with(words: &[Vec<u8>]) -> Result<Settings, WordFault>
         Ok(Settings::Judge { q })
     } else {
         Err(WordFault {
-            code: word_code::UNKNOWN_OPTION,
+            kind: WordFaultKind::UnknownOption,
             word: 3,
         })
     }
@@ -324,7 +315,7 @@ fn with_option(
     }
     match allowed {
         Extra::Nothing => Err(WordFault {
-            code: word_code::UNKNOWN_OPTION,
+            kind: WordFaultKind::UnknownOption,
             word: place,
         }),
         Extra::Seed => with_extra(place, given, SEED, 0, u64::MAX, word),
@@ -360,7 +351,7 @@ fn with_extra(
 {
     let Some(digits) = word.strip_prefix(name) else {
         return Err(WordFault {
-            code: word_code::UNKNOWN_OPTION,
+            kind: WordFaultKind::UnknownOption,
             word: place,
         });
     };
@@ -386,7 +377,7 @@ pub(crate) fn number_at(place: u32, low: u8, high: u8, word: &[u8]) -> Result<u8
     match few_within(low, high, word) {
         Some(n) => Ok(n),
         None => Err(WordFault {
-            code: word_code::INVALID_NUMBER,
+            kind: WordFaultKind::InvalidNumber,
             word: place,
         }),
     }
@@ -400,7 +391,7 @@ pub(crate) fn order_at(place: u32, word: &[u8]) -> Result<u8, WordFault>
     match order_of(word) {
         Some(q) => Ok(q),
         None => Err(WordFault {
-            code: word_code::INVALID_NUMBER,
+            kind: WordFaultKind::InvalidNumber,
             word: place,
         }),
     }
@@ -428,14 +419,14 @@ pub(crate) fn once<T: Drop>(place: u32, had: bool, value: Option<T>) -> Result<T
 {
     if had {
         return Err(WordFault {
-            code: word_code::REPEATED_OPTION,
+            kind: WordFaultKind::RepeatedOption,
             word: place,
         });
     }
     match value {
         Some(value) => Ok(value),
         None => Err(WordFault {
-            code: word_code::INVALID_NUMBER,
+            kind: WordFaultKind::InvalidNumber,
             word: place,
         }),
     }
@@ -491,7 +482,7 @@ pub fn word_line(fault: WordFault) -> ArrayVec<u8, LINE>
     let mut word = Buffer::new();
     let mut line = ArrayVec::new();
     append(&mut line, b"factex: C");
-    append(&mut line, code.format(fault.code).as_bytes());
+    append(&mut line, code.format(fault.kind.code()).as_bytes());
     append(&mut line, b" word ");
     append(&mut line, word.format(fault.word).as_bytes());
     append(&mut line, b"\n");

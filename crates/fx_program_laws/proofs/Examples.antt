@@ -30,6 +30,8 @@ use Rattle.fx_book.specs.Heads.{book_of}
 use Rattle.fx_book.specs.declared.fault.FaultKind.TheVariants as kind
 use Rattle.fx_book.specs.Faults.{fault}
 use Rattle.fx_checker.specs.Books.{first_flaw}
+use Rattle.fx_program.specs.declared.word_fault.WordFaultKind.TheVariants.{UnknownOption, InvalidNumber, RepeatedOption}
+use Rattle.fx_program.specs.declared.word_fault.WordFaultKind.TheVariants.{MissingNumber}
 use Rattle.fx_program.specs.CommandLine.{settings_of}
 use Rattle.fx_program.specs.Words.{word_fault}
 use Rattle.fx_program.specs.declared.words.Settings.TheVariants.{Run, Make, Large}
@@ -368,12 +370,12 @@ seeds :
     (settings_of (codes "run" ∷ []) ≡ Ok (Run 1 0))
     × (settings_of (codes "run" ∷ codes "--seed=007" ∷ []) ≡ Ok (Run 1 7))
     × (settings_of (codes "run" ∷ codes "--seed=18446744073709551615" ∷ []) ≡ Ok (Run 1 18446744073709551615))
-    × (settings_of (codes "run" ∷ codes "--seed=18446744073709551616" ∷ []) ≡ word_fault 4 2)
-    × (settings_of (codes "run" ∷ codes "--seed=000000000000000000000" ∷ []) ≡ word_fault 4 2)
-    × (settings_of (codes "run" ∷ codes "--seed=" ∷ []) ≡ word_fault 4 2)
-    × (settings_of (codes "run" ∷ codes "--seed=+1" ∷ codes "--seed=1" ∷ []) ≡ word_fault 4 2)
-    × (settings_of (codes "run" ∷ codes "--seed" ∷ []) ≡ word_fault 3 2)
-    × (settings_of (codes "run" ∷ codes "--seed=1" ∷ codes "--seed=x" ∷ []) ≡ word_fault 5 3)
+    × (settings_of (codes "run" ∷ codes "--seed=18446744073709551616" ∷ []) ≡ word_fault InvalidNumber 2)
+    × (settings_of (codes "run" ∷ codes "--seed=000000000000000000000" ∷ []) ≡ word_fault InvalidNumber 2)
+    × (settings_of (codes "run" ∷ codes "--seed=" ∷ []) ≡ word_fault InvalidNumber 2)
+    × (settings_of (codes "run" ∷ codes "--seed=+1" ∷ codes "--seed=1" ∷ []) ≡ word_fault InvalidNumber 2)
+    × (settings_of (codes "run" ∷ codes "--seed" ∷ []) ≡ word_fault UnknownOption 2)
+    × (settings_of (codes "run" ∷ codes "--seed=1" ∷ codes "--seed=x" ∷ []) ≡ word_fault RepeatedOption 3)
 unfolding settings_of
 seeds = (refl, refl, refl, refl, refl, refl, refl, refl, refl)
 
@@ -381,16 +383,18 @@ seeds = (refl, refl, refl, refl, refl, refl, refl, refl, refl)
 numbers_of_threads :
     (settings_of (codes "run" ∷ codes "--seed=1" ∷ codes "--threads=2" ∷ []) ≡ Ok (Run 2 1))
     × (settings_of (codes "run" ∷ codes "--threads=64" ∷ codes "--seed=1" ∷ []) ≡ Ok (Run 64 1))
-    × (settings_of (codes "run" ∷ codes "--threads=0" ∷ []) ≡ word_fault 4 2)
-    × (settings_of (codes "run" ∷ codes "--threads=65" ∷ []) ≡ word_fault 4 2)
-    × (settings_of (codes "run" ∷ codes "--threads=" ∷ []) ≡ word_fault 4 2)
-    × (settings_of (codes "run" ∷ codes "--threads=2" ∷ codes "--threads=2" ∷ []) ≡ word_fault 5 3)
-    × (settings_of (codes "run" ∷ codes "--threads=2" ∷ codes "--threads=x" ∷ []) ≡ word_fault 5 3)
-    × (settings_of (codes "run" ∷ codes "--threads=2" ∷ codes "--seed=1" ∷ codes "--seed=1" ∷ []) ≡ word_fault 5 4)
-    × (settings_of (codes "run" ∷ codes "--thread=2" ∷ []) ≡ word_fault 3 2)
+    × (settings_of (codes "run" ∷ codes "--threads=0" ∷ []) ≡ word_fault InvalidNumber 2)
+    × (settings_of (codes "run" ∷ codes "--threads=65" ∷ []) ≡ word_fault InvalidNumber 2)
+    × (settings_of (codes "run" ∷ codes "--threads=" ∷ []) ≡ word_fault InvalidNumber 2)
+    × (settings_of (codes "run" ∷ codes "--threads=2" ∷ codes "--threads=2" ∷ []) ≡ word_fault RepeatedOption 3)
+    × (settings_of (codes "run" ∷ codes "--threads=2" ∷ codes "--threads=x" ∷ []) ≡ word_fault RepeatedOption 3)
+    × (settings_of (codes "run" ∷ codes "--threads=2" ∷ codes "--seed=1" ∷ codes "--seed=1" ∷ [])
+    ≡ word_fault RepeatedOption 4)
+    × (settings_of (codes "run" ∷ codes "--thread=2" ∷ []) ≡ word_fault UnknownOption 2)
     × (settings_of (codes "large" ∷ codes "1" ∷ codes "--threads=2" ∷ []) ≡ Ok (Large 1 2))
-    × (settings_of (codes "large" ∷ codes "1" ∷ codes "--seed=2" ∷ []) ≡ word_fault 3 3)
-    × (settings_of (codes "large" ∷ codes "1" ∷ codes "--threads=2" ∷ codes "--threads=3" ∷ []) ≡ word_fault 5 4)
+    × (settings_of (codes "large" ∷ codes "1" ∷ codes "--seed=2" ∷ []) ≡ word_fault UnknownOption 3)
+    × (settings_of (codes "large" ∷ codes "1" ∷ codes "--threads=2" ∷ codes "--threads=3" ∷ [])
+    ≡ word_fault RepeatedOption 4)
 unfolding settings_of
 numbers_of_threads = (refl, refl, refl, refl, refl, refl, refl, refl, refl, refl, refl, refl)
 
@@ -399,14 +403,14 @@ numbers_of_steps :
     (settings_of (codes "make" ∷ codes "1" ∷ []) ≡ Ok (Make 1))
     × (settings_of (codes "make" ∷ codes "00000000000000000100" ∷ []) ≡ Ok (Make 100))
     × (settings_of (codes "large" ∷ codes "40" ∷ []) ≡ Ok (Large 40 1))
-    × (settings_of (codes "make" ∷ []) ≡ word_fault 6 2)
-    × (settings_of (codes "large" ∷ []) ≡ word_fault 6 2)
-    × (settings_of (codes "make" ∷ codes "0" ∷ codes "1" ∷ []) ≡ word_fault 4 2)
-    × (settings_of (codes "large" ∷ codes "0" ∷ codes "--seed=1" ∷ []) ≡ word_fault 4 2)
-    × (settings_of (codes "large" ∷ codes "101" ∷ []) ≡ word_fault 4 2)
-    × (settings_of (codes "make" ∷ codes "--threads=2" ∷ []) ≡ word_fault 4 2)
-    × (settings_of (codes "make" ∷ codes "000000000000000000001" ∷ []) ≡ word_fault 4 2)
-    × (settings_of (codes "make" ∷ codes "1" ∷ codes "1" ∷ []) ≡ word_fault 3 3)
+    × (settings_of (codes "make" ∷ []) ≡ word_fault MissingNumber 2)
+    × (settings_of (codes "large" ∷ []) ≡ word_fault MissingNumber 2)
+    × (settings_of (codes "make" ∷ codes "0" ∷ codes "1" ∷ []) ≡ word_fault InvalidNumber 2)
+    × (settings_of (codes "large" ∷ codes "0" ∷ codes "--seed=1" ∷ []) ≡ word_fault InvalidNumber 2)
+    × (settings_of (codes "large" ∷ codes "101" ∷ []) ≡ word_fault InvalidNumber 2)
+    × (settings_of (codes "make" ∷ codes "--threads=2" ∷ []) ≡ word_fault InvalidNumber 2)
+    × (settings_of (codes "make" ∷ codes "000000000000000000001" ∷ []) ≡ word_fault InvalidNumber 2)
+    × (settings_of (codes "make" ∷ codes "1" ∷ codes "1" ∷ []) ≡ word_fault UnknownOption 3)
 unfolding settings_of
 numbers_of_steps = (refl, refl, refl, refl, refl, refl, refl, refl, refl, refl, refl)
 

@@ -1,7 +1,6 @@
 use Rattle.std.proofs.Common.{[], length, arith}
 use Rattle.std.proofs.lemmas.List.{get_or_read}
 use Rattle.std.proofs.lemmas.List.Elements.{recursion_from_All}
-use Rattle.fx_designs.specs.Vectors.{zeros}
 use Rattle.fx_laws.proofs.Tables.{is_order-field}
 use Rattle.fx_laws.proofs.Space.{combination-vector}
 use Rattle.fx_judge.proofs.Stepping.{combination_more, combination_end, combination_begins}

@@ -6,7 +6,7 @@ use Rattle.std.proofs.lemmas.List.Elements.{All-weaker}
 use Rattle.csv.specs.Records.{fields_of}
 use Rattle.fx_designs.specs.Vectors.{IsVector}
 use Rattle.fx_judge.specs.Plans.{component_total}
-use Rattle.fx_judge.specs.Reading.{are_fit, are_names, codes_in}
+use Rattle.fx_judge.specs.Reading.{are_fit, codes_in}
 use Rattle.fx_judge.proofs.Cutting.{none_short}
 use Rattle.fx_judge.proofs.reading.plan_from.Goals as goal
 

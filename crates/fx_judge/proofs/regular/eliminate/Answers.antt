@@ -4,7 +4,7 @@ use Rattle.std.proofs.lemmas.List.{get_or_read}
 use Rattle.fx_designs.specs.Vectors.{zeros}
 use Rattle.fx_laws.proofs.Tables.{is_order-field}
 use Rattle.fx_judge.specs.Bases.{column}
-use Rattle.fx_judge.specs.Rules.{basic_among, combination_for, rule_by}
+use Rattle.fx_judge.specs.Rules.{basic_among, combination_for}
 use Rattle.fx_judge.proofs.Passing.{plan_zeros, column_fits, on_none, none_found, some_none, off_positive}
 use Rattle.fx_judge.proofs.Passing.{direction_fits, direction_long, rows_fit, on_some}
 use Rattle.fx_judge.proofs.Stepping.{mark_more, starts, rule_more, no_rule}

@@ -1,12 +1,13 @@
 use Rattle.std.proofs.Common.{rules, ◌≡◌, ◌<◌, ℕ, List, Err, length, sym, ap, ◌∙◌, refl}
 use Rattle.std.proofs.lemmas.Bool.{lt-ltb}
+use Rattle.fx_judge.specs.declared.fault.FaultKind.TheVariants.{TooLong}
 use Rattle.fx_judge.specs.Reading.{plan_fault, plan_of_text}
 use Rattle.fx_program.specs.Judging.{judged_output}
 use Rattle.fx_program.proofs.Endings.{ends_by}
 use Rattle.fx_program.proofs.Commands.{all_read, never_low, part_read, read_failed}
 use Rattle.fx_program.proofs.judging.judge_text.Goals as goal
 
-too_long : (q : ℕ) (text : List ℕ) → 1048576 < length text → plan_of_text q text ≡ Err (plan_fault 1 1)
+too_long : (q : ℕ) (text : List ℕ) → 1048576 < length text → plan_of_text q text ≡ Err (plan_fault TooLong 1)
 unfolding plan_of_text
 too_long q text long = rw (lt-ltb 1048576 (length text) long) refl
 
