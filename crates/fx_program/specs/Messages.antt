@@ -4,6 +4,8 @@ use Rattle.std.specs.List.{list_any}
 use Rattle.fx_lexer.specs.Places.{IsPlaceIn}
 use Rattle.fx_lexer.specs.declared.place.Place.{Place}
 use Rattle.fx_rules.specs.Problems.{code_of}
+use Rattle.fx_rules.specs.declared.problem.Problem.{Problem}
+use Rattle.fx_rules.specs.declared.problem.Problem.TheVariants as rules
 use Rattle.fx_program.specs.declared.plan_fault.PlanFault.{PlanFault}
 use Rattle.fx_program.specs.declared.plan_fault.PlanFault.TheVariants as fault
 use Rattle.fx_program.specs.declared.text.TextFault.{TextFault}
@@ -58,19 +60,16 @@ lexical_reasons =
     (4, codes "number is too long") ∷
     (5, codes "name is too long") ∷ []
 
--- what those with the letter P say, on rules that stand before a step
-abbrev pub plan_reasons : List (ℕ × List ℕ)
-plan_reasons =
-    (1, codes "rules are not of their form") ∷
-    (2, codes "name is no factor and no block factor") ∷
-    (3, codes "rules are not in the order of the factors") ∷
-    (4, codes "factor has no run index before this product") ∷
-    (5, codes "factor is twice in a product") ∷
-    (6, codes "power is no code") ∷
-    (7, codes "more factors without a rule than run indexes") ∷
-    (8, codes "run factor is not the next") ∷
-    (9, codes "a step has no rules, or rules have no step") ∷
-    (10, codes "a minimum, a maximum or MINABS with rules") ∷ []
+-- what is wrong with rules that stand before a step
+abbrev pub problem_reason : Problem → List ℕ
+problem_reason rules.Form = codes "rules are not of their form"
+problem_reason rules.Unknown = codes "name is no factor and no block factor"
+problem_reason rules.OutOfOrder = codes "rules are not in the order of the factors"
+problem_reason rules.NotBefore = codes "factor has no run index before this product"
+problem_reason rules.Repeated = codes "factor is twice in a product"
+problem_reason rules.Power = codes "power is no code"
+problem_reason rules.TooMany = codes "more factors without a rule than run indexes"
+problem_reason rules.NotNext = codes "run factor is not the next"
 
 -- what stands beside a number in a table
 abbrev pub listed_at : List (ℕ × List ℕ) → ℕ → List ℕ
@@ -94,15 +93,15 @@ fault_line (Lexical fault) =
 fault_line (Refused refusal) = line_at (codes "E") refusal.code refusal.line refusal.column (reason_of refusal.code)
 
 -- the line of a rule with the letter P
-abbrev pub plan_line : ℕ → Place → List ℕ
-plan_line code place = line_at (codes "P") code place.line place.column (listed_at plan_reasons code)
+abbrev pub plan_line : ℕ → Place → List ℕ → List ℕ
+plan_line code place reason = line_at (codes "P") code place.line place.column reason
 
 -- the line of a fault of a text with rules
 abbrev pub plan_fault_line : PlanFault → List ℕ
 plan_fault_line (fault.Program wrong) = fault_line wrong
-plan_fault_line (fault.Apart place) = plan_line 9 place
-plan_fault_line (fault.Searching place) = plan_line 10 place
-plan_fault_line (fault.Rules problem place) = plan_line (code_of problem) place
+plan_fault_line (fault.Apart place) = plan_line 9 place (codes "a step has no rules, or rules have no step")
+plan_fault_line (fault.Searching place) = plan_line 10 place (codes "a minimum, a maximum or MINABS with rules")
+plan_fault_line (fault.Rules problem place) = plan_line (code_of problem) place (problem_reason problem)
 
 -- the table has a row for this number
 abbrev pub has_row : List (ℕ × List ℕ) → ℕ → Bool

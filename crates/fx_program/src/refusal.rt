@@ -1,18 +1,13 @@
 ghost use Rattle.std.specs.Prelude.{◌≡◌, ◌++◌, map, OnOk};
 ghost use Rattle.fx_program.specs.Reasons.{reason_row};
-ghost use Rattle.fx_program.specs.Messages.{fault_line, lexical_reasons, line_at, listed_at, plan_fault_line, plan_line, plan_reasons, reason_of, reasons};
+ghost use Rattle.fx_program.specs.Messages.{fault_line, lexical_reasons, line_at, listed_at, plan_fault_line, plan_line, problem_reason, reason_of, reasons};
 
 use crate::plan_fault::PlanFault;
 use crate::text::TextFault;
 use fx_base::{Bytes, NoMemory, put, put_number};
 use fx_language::code;
+use fx_rules::Problem;
 use fx_text::Place;
-
-/// The rule that a step has rules of its own, and rules a step.
-const APART: u8 = 9;
-
-/// The rule that a step with rules leaves nothing to a search.
-const SEARCHING: u8 = 10;
 
 /// A row of a table of reasons: the number of a rule, and what it says.
 #[derive(Clone, Copy)]
@@ -52,17 +47,24 @@ pub(crate) fn put_plan_fault(out: &mut Bytes, fault: PlanFault) -> Result<(), No
 {
     match fault {
         PlanFault::Program(fault) => put_fault(out, fault),
-        PlanFault::Apart(place) => put_plan_line(out, APART, place),
-        PlanFault::Searching(place) => put_plan_line(out, SEARCHING, place),
-        PlanFault::Rules(problem, place) => put_plan_line(out, problem.code(), place),
+        PlanFault::Apart(place) => {
+            let reason = b"a step has no rules, or rules have no step";
+            put_plan_line(out, 9, place, reason)
+        }
+        PlanFault::Searching(place) => {
+            let reason = b"a minimum, a maximum or MINABS with rules";
+            put_plan_line(out, 10, place, reason)
+        }
+        PlanFault::Rules(problem, place) => {
+            put_plan_line(out, problem.code(), place, problem_reason(problem))
+        }
     }
 }
 
 /// Appends the line of a rule on rules that stand before a step.
-fn put_plan_line(out: &mut Bytes, code: u8, place: Place) -> Result<(), NoMemory>
-    ensures { OnOk result (out.new ≡ out.old ++ plan_line code place) }
+fn put_plan_line(out: &mut Bytes, code: u8, place: Place, reason: &[u8]) -> Result<(), NoMemory>
+    ensures { OnOk result (out.new ≡ out.old ++ plan_line code place reason.now) }
 {
-    let reason = listed_at(&plan_reasons(), code);
     put_line(out, b"P", code, place.line, place.column, reason)
 }
 
@@ -127,22 +129,20 @@ fn lexical_reasons() -> [Reason; 5]
     ]
 }
 
-/// What the rules with the letter P say.
-fn plan_reasons() -> [Reason; 10]
-    ensures { map reason_row result ≡ plan_reasons }
+/// What is wrong with rules.
+fn problem_reason(problem: Problem) -> &'static [u8]
+    ensures { result.now ≡ problem_reason problem }
 {
-    [
-        row(1, b"rules are not of their form"),
-        row(2, b"name is no factor and no block factor"),
-        row(3, b"rules are not in the order of the factors"),
-        row(4, b"factor has no run index before this product"),
-        row(5, b"factor is twice in a product"),
-        row(6, b"power is no code"),
-        row(7, b"more factors without a rule than run indexes"),
-        row(8, b"run factor is not the next"),
-        row(APART, b"a step has no rules, or rules have no step"),
-        row(SEARCHING, b"a minimum, a maximum or MINABS with rules"),
-    ]
+    match problem {
+        Problem::Form => b"rules are not of their form",
+        Problem::Unknown => b"name is no factor and no block factor",
+        Problem::OutOfOrder => b"rules are not in the order of the factors",
+        Problem::NotBefore => b"factor has no run index before this product",
+        Problem::Repeated => b"factor is twice in a product",
+        Problem::Power => b"power is no code",
+        Problem::TooMany => b"more factors without a rule than run indexes",
+        Problem::NotNext => b"run factor is not the next",
+    }
 }
 
 /// What the rules with the letter E say.
