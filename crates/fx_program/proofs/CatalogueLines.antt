@@ -1,10 +1,8 @@
 -- The lines of a catalogue, one after another, and what is given for all of them.
 use Rattle.std.proofs.Common.{eqb, ℕ, ◌≡◌, ◌<◌, ◌≤◌, ◌+◌, ◌-◌, ◌^◌, Bool, true, false, List, [], ◌∷◌, ◌++◌, map, refl}
-use Rattle.std.proofs.Common.{sym}
-use Rattle.std.proofs.Common.{ap}
-use Rattle.std.proofs.Common.{inl, inr, ap₂, subst, ◌∙◌, arith, suc, append_assoc, append-nil, IsTrue, Option, Some}
-use Rattle.std.proofs.Common.{None, length}
-use Rattle.std.specs.Prelude.{nat_lt, nat_le, if◌then◌else◌, ◌||◌, IsErrAnd, Result, Ok, Err}
+use Rattle.std.proofs.Common.{sym, ap, inl, inr, ap₂, subst, ◌∙◌, arith, zero, suc, append_assoc, append-nil, IsTrue}
+use Rattle.std.proofs.Common.{Option, Some, None, length}
+use Rattle.std.specs.Prelude.{nat_lt, nat_le, if◌then◌else◌, ◌||◌}
 use Rattle.std.specs.List.{flat_map, list_all, list_any, range_with_len}
 use Rattle.std.proofs.lemmas.Bool.{and_parts, both_ways, cases_Bool, cond-true, cond-false, eqb-true, leb-true}
 use Rattle.std.proofs.lemmas.Bool.{or_cases}
@@ -17,7 +15,7 @@ use Rattle.fx_settings.specs.Powers.{greatest}
 use Rattle.fx_statements.specs.Valid.{most_factors_of}
 use Rattle.fx_vectors.specs.declared.shape.Shape.{Shape}
 use Rattle.fx_vectors.specs.Shape.{IsShape}
-use Rattle.fx_catalogue.specs.Catalogues.{Entry, entries, entries_status, entry_at, entry_events}
+use Rattle.fx_catalogue.specs.Catalogues.{Entry, catalogue_events, entries, entries_status, entry_at, entry_events}
 use Rattle.fx_catalogue.specs.Catalogues.{is_budget, is_nothing, shape_at, up_to}
 use Rattle.fx_catalogue.specs.Lines.{line_by, line_of, problem_at}
 use Rattle.fx_catalogue.specs.Listing.{head_text}
@@ -25,10 +23,8 @@ use Rattle.fx_catalogue.specs.declared.line.Line.{Line}
 use Rattle.fx_catalogue.specs.declared.line.Line.TheVariants.{Least, Nothing, Budget}
 use Rattle.fx_program.specs.Cataloguing.{HasShapedBook, catalogue_output, entry_output, line_status}
 use Rattle.fx_program.specs.CommandLine.{IsCatalogue}
+use Rattle.fx_program.specs.Listings.{AreLines, IsListing, in_turn}
 use Rattle.fx_program.specs.Output.{Output, message, worse}
-use Rattle.fx_program.specs.Outside.{Ends, Outside}
-use Rattle.fx_program.specs.declared.stop.Stop.{Stop}
-use Rattle.fx_program.proofs.Stages.{StagesSoFar, before_stages, in_order, one_more_stage, stopped_in_stage}
 
 -- shapes of the lines
 abbrev pub levels : List ℕ
@@ -100,69 +96,15 @@ shaped_book shape budget h =
     ]
 
 -- the status of a line tells whether it is the last
-pub last_line : (line : Line) → line_status line ≡ 1 → is_nothing line ≡ true
-last_line (Least matrix pattern nodes book) e = absurd (omega (arith, e))
-last_line (Nothing nodes book) e = refl
-last_line Budget e = absurd (omega (arith, e))
+of_last : (line : Line) → is_nothing line ≡ true → line_status line ≡ 1
+of_last (Least matrix pattern nodes book) e = absurd (cc e)
+of_last (Nothing nodes book) e = refl
+of_last Budget e = absurd (cc e)
 
-pub no_last_line : (line : Line) → (line_status line ≡ 1 → ⊥) → is_nothing line ≡ false
-no_last_line (Least matrix pattern nodes book) h = refl
-no_last_line (Nothing nodes book) h = absurd (h refl)
-no_last_line Budget h = refl
-
-module _ (q m most budget : ℕ) where
-  -- the lines for s factors and more
-  pub lines_from : ℕ → List Entry
-  lines_from s = up_to (λ (e : Entry). is_nothing e.line) (map (entry_at q m budget) (range_with_len s (most + 1 - s)))
-
-  pub all_lines : m < most → entries q m most budget ≡ lines_from (m + 1)
-  unfolding entries lines_from
-  all_lines more =
-      let e : most - m ≡ most + 1 - (m + 1) = omega arith in
-      ap (λ n. up_to (λ (e : Entry). is_nothing e.line) (map (entry_at q m budget) (range_with_len (m + 1) n))) e
-
-  pub next_line : (s : ℕ) → s ≤ most
-      → lines_from s
-      ≡ entry_at q m budget s ∷ (if is_nothing (line_of (shape_at q m s) budget) then [] else lines_from (s + 1))
-  unfolding lines_from
-  next_line s upto =
-      let e : most + 1 - s ≡ suc (most + 1 - (s + 1)) = omega arith in
-      ap (λ n. up_to (λ (e : Entry). is_nothing e.line) (map (entry_at q m budget) (range_with_len s n))) e
-
-  pub no_more_lines : (s : ℕ) → most < s → lines_from s ≡ []
-  unfolding lines_from
-  no_more_lines s past =
-      let e : most + 1 - s ≡ 0 = omega arith in
-      ap (λ n. up_to (λ (e : Entry). is_nothing e.line) (map (entry_at q m budget) (range_with_len s n))) e
-
-  -- what is given for them, and for those behind one
-  pub outputs_from : ℕ → List Output
-  outputs_from s = map (entry_output budget) (lines_from s)
-
-  abbrev pub outputs_behind : ℕ → List Output
-  outputs_behind s =
-      map (entry_output budget) (if is_nothing (line_of (shape_at q m s) budget) then [] else lines_from (s + 1))
-
-  module _ (s : ℕ) where
-    pub next_output : s ≤ most → outputs_from s ≡ entry_output budget (entry_at q m budget s) ∷ outputs_behind s
-    unfolding outputs_from
-    next_output upto = ap (map (entry_output budget)) (next_line s upto)
-
-    pub after_last : line_status (line_of (shape_at q m s) budget) ≡ 1 → outputs_behind s ≡ []
-    after_last e =
-        ap (map (entry_output budget))
-        (cond-true (is_nothing (line_of (shape_at q m s) budget)) [] (lines_from (s + 1)) (last_line _ e))
-
-    pub before_others : (line_status (line_of (shape_at q m s) budget) ≡ 1 → ⊥)
-        → outputs_behind s ≡ outputs_from (s + 1)
-    unfolding outputs_from
-    before_others h =
-        ap (map (entry_output budget))
-        (cond-false (is_nothing (line_of (shape_at q m s) budget)) [] (lines_from (s + 1)) (no_last_line _ h))
-
-  pub none_left : (s : ℕ) → most < s → outputs_from s ≡ []
-  unfolding outputs_from
-  none_left s past = ap (map (entry_output budget)) (no_more_lines s past)
+of_other : (line : Line) → is_nothing line ≡ false → line_status line ≡ 1 → ⊥
+of_other (Least matrix pattern nodes book) e one = omega (arith, one)
+of_other (Nothing nodes book) e one = cc e
+of_other Budget e one = omega (arith, one)
 
 -- the greatest of the statuses of lines
 worse_zero : (a : ℕ) → worse a 0 ≡ a
@@ -188,7 +130,7 @@ of_first Budget false true = refl
 of_first Budget false false = refl
 
 together : (budget : ℕ) (events : List Event) (status : ℕ) (list : List Entry)
-    → in_order events status (map (entry_output budget) list)
+    → in_turn events status (map (entry_output budget) list)
     ≡ record { events = events ++ flat_map (entry_events budget) list; status = worse status (entries_status list) }
 together budget events status [] =
     ap₂ (λ (l : List Event) (n : ℕ). record { events = l; status = n }) (sym (append-nil events))
@@ -199,33 +141,42 @@ together budget events status (e ∷ list) =
     (append_assoc events (entry_events budget e) (flat_map (entry_events budget) list))
     (worse_assoc status (line_status e.line) (entries_status list) ∙ ap (worse status) (of_first e.line _ _))
 
-pub whole_catalogue : (q m most budget : ℕ) → m < most
-    → catalogue_output q m most budget
-    ≡ in_order [] 0 (message (head_text q m) 0 ∷ outputs_from q m most budget (m + 1))
-unfolding outputs_from
-whole_catalogue q m most budget more =
-    let list : List Entry = lines_from q m most budget (m + 1) in
-    ap₂ (λ (l : List Event) (n : ℕ). record { events = l; status = n })
-    (ap (λ (l : List Entry). Piece (head_text q m) ∷ flat_map (entry_events budget) l) (all_lines q m most budget more))
-    (ap entries_status (all_lines q m most budget more) ∙ sym (zero_worse (entries_status list)))
-    ∙ sym (together budget (Piece (head_text q m) ∷ []) (worse 0 0) list)
+module _ (q m most budget : ℕ) where
+  abbrev IsLine : ℕ → Output → Type 0
+  IsLine s given = given ≡ entry_output budget (entry_at q m budget s)
 
--- where the head is listed, the lines for m + 1 factors and more are left
-pub started : (q m most budget : ℕ) → m < most → {old now : Outside} {ended : ℕ}
-    → Ends (message (head_text q m) 0) old now (Ok ended)
-    → StagesSoFar old now (catalogue_output q m most budget) 0 (outputs_from q m most budget (m + 1))
-started q m most budget more {old} {now} {ended} ends =
-    subst (λ (o : Output). StagesSoFar old now o 0 (outputs_from q m most budget (m + 1)))
-    (sym (whole_catalogue q m most budget more))
-    (one_more_stage (before_stages old (message (head_text q m) 0 ∷ outputs_from q m most budget (m + 1))) refl ends
-    (sym (ap (worse 0) (ends.gives.same ends.low))))
+  -- the lines for s factors and more, no more than so many
+  abbrev lines_from : ℕ → ℕ → List Entry
+  lines_from s n = up_to (λ (e : Entry). is_nothing e.line) (map (entry_at q m budget) (range_with_len s n))
 
--- stopped before the head is listed
-pub not_started : (q m most budget : ℕ) → m < most → {old now : Outside} (why : Stop)
-    → Ends (message (head_text q m) 0) old now (Err why)
-    → (ended : Result ℕ Stop) → IsErrAnd ended (λ e. e ≡ why)
-    → Ends (catalogue_output q m most budget) old now ended
-not_started q m most budget more {old} {now} why ends ended h =
-    subst (λ (o : Output). Ends o old now ended) (sym (whole_catalogue q m most budget more))
-    (stopped_in_stage
-    (before_stages old (message (head_text q m) 0 ∷ outputs_from q m most budget (m + 1))) refl why ends ended h)
+  of_lines : (s n : ℕ) (lines : List Output) → AreLines IsLine s n lines
+      → lines ≡ map (entry_output budget) (lines_from s n)
+  of_lines s zero lines are = are
+  of_lines s (suc n) [] are = absurd are
+  of_lines s (suc n) (line ∷ lines) are =
+      let own = line_of (shape_at q m s) budget in
+      let status = ap (λ (o : Output). o.status) are.0 in
+      ap₂ (λ (o : Output) (l : List Output). o ∷ l) are.0
+      (elim (cases_Bool (is_nothing own)) [
+        | inl last ↦
+            are.1.0 (status ∙ of_last own last)
+            ∙ sym (ap (map (entry_output budget)) (cond-true (is_nothing own) [] (lines_from (s + 1) n) last))
+        | inr other ↦
+            of_lines (s + 1) n lines (are.1.1 (λ one. of_other own other (sym status ∙ one)))
+            ∙ sym (ap (map (entry_output budget)) (cond-false (is_nothing own) [] (lines_from (s + 1) n) other))
+      ])
+
+  -- what is given for a head and such lines is what is given for a catalogue
+  pub of_catalogue : (head : List ℕ) → head ≡ head_text q m → (given : Output)
+      → IsListing head IsLine (m + 1) most given
+      → given ≡ catalogue_output q m most budget
+  unfolding entries
+  of_catalogue head named given is =
+      let count : most + 1 - (m + 1) ≡ most - m = omega arith in
+      let lines = of_lines (m + 1) (most + 1 - (m + 1)) is.lines is.are ∙ ap
+      (λ n. map (entry_output budget) (lines_from (m + 1) n)) count in
+      is.is
+      ∙ ap₂ (λ (h : List ℕ) (l : List Output). in_turn [] 0 (message h 0 ∷ l)) named lines
+      ∙ together budget (Piece (head_text q m) ∷ []) 0 (entries q m most budget)
+      ∙ ap (λ n. record { events = catalogue_events q m most budget; status = n })
+      (zero_worse (entries_status (entries q m most budget)))

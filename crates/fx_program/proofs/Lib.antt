@@ -4,6 +4,7 @@ pub mod Endings
 pub mod Limits
 pub mod SoFar
 pub mod Stages
+mod Listings
 pub mod CatalogueLines
 pub mod Filing
 mod Filling

@@ -1,22 +1,19 @@
 -- What was given by the stages so far, each with an output of its own, and what is given at the end.
-use Rattle.std.proofs.Common.{false, ℕ, ◌≡◌, ◌<◌, List, [], ◌∷◌, ◌++◌, refl, sym, ap, subst, ◌∙◌, append_assoc, append-nil}
+use Rattle.std.proofs.Common.{false, ℕ, ◌≡◌, ◌<◌, List, [], ◌∷◌, ◌++◌, refl, sym, ap, subst, ◌∙◌, append_assoc}
+use Rattle.std.proofs.Common.{append-nil}
 use Rattle.std.specs.Prelude.{IsErrAnd, Ok, Err, Result}
 use Rattle.fx_base.specs.Acts.{Event, acts, Did, DidPart}
 use Rattle.fx_base.proofs.Doing.{did_none, did_then, part_then, part_before}
 use Rattle.fx_program.specs.declared.stop.Stop.{Stop}
 use Rattle.fx_program.specs.Stops.{HasCause, exit_status}
 use Rattle.fx_program.specs.Output.{Output, Gives, worse}
+use Rattle.fx_program.specs.Listings.{in_turn}
 use Rattle.fx_program.specs.Outside.{Ends, HaveSameRooms, Outside, faults_of, world_of}
 use Rattle.fx_program.proofs.Endings.{error_is, gives_part, gives_whole, rooms_then, same_rooms, stopped_high}
 
--- outputs in order, after these events and this status; the greatest status decides
-abbrev pub in_order : List Event → ℕ → List Output → Output
-in_order events status [] = record { events = events; status = status }
-in_order events status (given ∷ later) = in_order (events ++ given.events) (worse status given.status) later
-
 -- all events begin with those before
 more_events : (events : List Event) (status : ℕ) (outputs : List Output)
-    → (later : List Event) × ((in_order events status outputs).events ≡ events ++ later)
+    → (later : List Event) × ((in_turn events status outputs).events ≡ events ++ later)
 more_events events status [] = ([], sym (append-nil events))
 more_events events status (given ∷ outputs) =
     let r = more_events (events ++ given.events) (worse status given.status) outputs in
@@ -25,12 +22,12 @@ more_events events status (given ∷ outputs) =
 -- where some stages are given, and these outputs are left
 pub record StagesSoFar (old new : Outside) (whole : Output) (status : ℕ) (left : List Output) : Type 0 where
   pub done : List Event
-  pub rest : whole ≡ in_order done status left
+  pub rest : whole ≡ in_turn done status left
   pub did : Did (world_of old) (world_of new) (acts done)
   pub counts : faults_of new ≡ faults_of old
   pub rooms : HaveSameRooms old new
 
-pub before_stages : (o : Outside) (outputs : List Output) → StagesSoFar o o (in_order [] 0 outputs) 0 outputs
+pub before_stages : (o : Outside) (outputs : List Output) → StagesSoFar o o (in_turn [] 0 outputs) 0 outputs
 before_stages o outputs = record {
   done = [];
   rest = refl;
@@ -46,7 +43,7 @@ module _ {old new : Outside} {whole : Output} {status : ℕ} where
   stages_given s none low closed = record {
     low = low;
     gives = subst (λ (o : Output). Gives o (world_of old) (world_of new) status)
-        (sym (s.rest ∙ ap (in_order s.done status) none))
+        (sym (s.rest ∙ ap (in_turn s.done status) none))
         (gives_whole (record { events = s.done; status = status }) status refl s.did);
     cause = record { failed = λ e. absurd (cc e); unchanged = λ e. s.counts };
     rooms = s.rooms;
@@ -55,15 +52,15 @@ module _ {old new : Outside} {whole : Output} {status : ℕ} where
 
   module _ {left outputs : List Output} {given : Output} (s : StagesSoFar old new whole status left)
       (next : left ≡ given ∷ outputs) where
-    next_rest : whole ≡ in_order s.done status (given ∷ outputs)
-    next_rest = s.rest ∙ ap (in_order s.done status) next
+    next_rest : whole ≡ in_turn s.done status (given ∷ outputs)
+    next_rest = s.rest ∙ ap (in_turn s.done status) next
 
     pub one_more_stage : {now : Outside} {ended later : ℕ} → Ends given new now (Ok ended) → later ≡ worse status ended
         → StagesSoFar old now whole later outputs
     one_more_stage {now} {ended} {later} ends greater = record {
       done = s.done ++ given.events;
       rest = next_rest
-          ∙ ap (λ n. in_order (s.done ++ given.events) n outputs)
+          ∙ ap (λ n. in_turn (s.done ++ given.events) n outputs)
           (sym (greater ∙ ap (worse status) (ends.gives.same ends.low)));
       did = did_then s.done given.events s.did (ends.gives.whole ends.low);
       counts = ends.cause.unchanged (λ e. absurd (cc e)) ∙ s.counts;

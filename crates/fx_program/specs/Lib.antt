@@ -12,6 +12,7 @@ pub mod Making
 pub mod Summaries
 pub mod Verdicts
 pub mod Output
+pub mod Listings
 pub mod Ended
 pub mod Planning
 pub mod Judging

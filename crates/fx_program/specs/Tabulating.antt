@@ -1,5 +1,7 @@
 -- What is given for a table: the files of its books, and its lines as texts.
-use Rattle.std.specs.Prelude.{ℕ, ◌≡◌, ◌==◌, ◌+◌, ◌^◌, if◌then◌else◌, List, [], ◌∷◌, ◌++◌, codes, decimal}
+use Rattle.std.proofs.Common.{arith}
+use Rattle.std.specs.Prelude.{ℕ, ◌≡◌, ◌==◌, ◌≤◌, ◌+◌, ◌^◌, if◌then◌else◌, List, [], ◌∷◌, ◌++◌, None, refl, codes}
+use Rattle.std.specs.Prelude.{decimal}
 use Rattle.fx_base.specs.Acts.{Event, Piece, WholeFile}
 use Rattle.fx_table_book.specs.declared.base.Base.{Base}
 use Rattle.fx_table_book.specs.declared.order.Order.{Order}
@@ -9,9 +11,9 @@ use Rattle.fx_table_lines.specs.declared.line.TableLine.{TableLine}
 use Rattle.fx_table_lines.specs.declared.line.TableLine.TheVariants.{Least, Nothing, Open}
 use Rattle.fx_program.specs.Output.{Output, with_files, worse}
 use Rattle.fx_program.specs.declared.table_words.AskedTable.{AskedTable}
-use Rattle.fx_program.specs.TableWords.{first_line}
+use Rattle.fx_program.specs.TableWords.{IsAsked, first_line}
 use Rattle.fx_table_lines.specs.Listing.{head_text, line_text, order_text}
-use Rattle.fx_program.specs.Tables.{IsTable, base_at}
+use Rattle.fx_program.specs.Tables.{IsLine, IsTable, base_at}
 
 abbrev pub whole_name : Base → List ℕ
 whole_name base = codes "-whole-" ++ (decimal (base.q ^ base.h) ++ (codes "-" ++ decimal base.w))
@@ -50,6 +52,22 @@ line_status (Open entries rows) = 2
 -- the book, and then the line
 abbrev pub line_output : Base → Order → TableLine → Output
 line_output base order line = with_files (files_of base order line) (line_text base order line) (line_status line)
+
+-- a number of factors outside the base of which a table has a line
+abbrev pub IsNumber : AskedTable → ℕ → Type 0
+IsNumber asked n = IsAsked asked × ((first_line asked ≤ n) × (n ≤ asked.upto))
+
+-- an output of a line for n factors outside the base whose claim holds
+pub record IsGiven (asked : AskedTable) (n : ℕ) (given : Output) : Type 0 where
+  pub line : TableLine
+  pub holds : IsLine asked n line
+  pub is : given ≡ line_output (base_at asked n) asked.order line
+
+-- for each number there is one: the line that is open before anything is searched
+abbrev pub open_given : (asked : AskedTable) (n : ℕ)
+    → IsGiven asked n (line_output (base_at asked n) asked.order (Open 0 None))
+open_given asked n =
+    record { line = Open 0 None; holds = record { holds = omega arith; readable = tt }; is = refl }
 
 -- the lines from n factors outside the base on, after these events and this status; the greatest status decides
 abbrev pub lines_output : AskedTable → ℕ → List Event → ℕ → List TableLine → Output

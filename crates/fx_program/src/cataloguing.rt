@@ -1,19 +1,17 @@
-ghost use Rattle.std.specs.Prelude.{◌≡◌, ◌<◌, ◌≤◌, [], ◌∷◌, false};
+ghost use Rattle.std.specs.Prelude.{◌≡◌, ◌<◌, ◌≤◌, [], ◌∷◌, Some, false, length, refl, IfOk};
 ghost use Rattle.fx_vectors.specs.Shape.{IsShape};
-ghost use Rattle.fx_catalogue.specs.Catalogues.{book_file, book_name, entry_at, files_of};
-ghost use Rattle.fx_catalogue.specs.Listing.{head_text};
-ghost use Rattle.fx_program.specs.Cataloguing.{HasShapedBook, catalogue_output, entry_output, line_status};
+ghost use Rattle.fx_catalogue.specs.Catalogues.{book_file, book_name, entry_at, files_of, shape_at};
+ghost use Rattle.fx_program.specs.Cataloguing.{HasShapedBook, IsNumber, catalogue_output, entry_output, line_status};
 ghost use Rattle.fx_program.specs.CommandLine.{IsCatalogue};
-ghost use Rattle.fx_program.specs.Output.{message};
-ghost use Rattle.fx_program.specs.Outside.{Lists, ShelvesFiles, Writes, shelf_view, sink_view};
+ghost use Rattle.fx_program.specs.Listings.{HasShortName, book_events};
+ghost use Rattle.fx_program.specs.Outside.{Writes, shelf_view, sink_view};
 
-use crate::listing::list;
+use crate::lister::{BOOK_NAME, BookFile, Lines, ListedLine, NO_DESIGN, Numbers, list_lines};
 use crate::session::Session;
-use crate::status::worse;
 use crate::stop::Stop;
 use crate::words::append;
 use arrayvec::ArrayVec;
-use fx_base::{Bytes, Shelf, Sink, shelve_pieces};
+use fx_base::{Bytes, NoMemory, Shelf, Sink};
 use fx_board::FreeGate;
 use fx_book::book_pieces;
 use fx_catalogue::{Line, least_line, put_head, put_line};
@@ -21,12 +19,6 @@ use fx_vectors::{Book, Shape};
 use itoa::Buffer;
 use std::alloc::Global;
 use std::thread::Threads;
-
-/// The room for the name of a book: `catalogue-`, a number and `.book`.
-const BOOK_NAME: usize = 64;
-
-/// The status of a line without a design.
-const NO_DESIGN: u8 = 1;
 
 /// The numbers of a catalogue.
 #[derive(Clone, Copy)]
@@ -41,8 +33,67 @@ pub(crate) struct CatalogueNumbers {
     pub(crate) nodes: u64,
 }
 
-/// Lists a catalogue: its head, and then a line for each number of factors, up to the first without a design. The
-/// book of a line is shelved before it is listed.
+impl CatalogueNumbers {
+    /// The shape of the line for this number of factors.
+    fn shape(self, s: u8) -> Shape
+        ensures { result ≡ shape_at self.q self.m s }
+    {
+        Shape {
+            q: self.q,
+            m: self.m,
+            s,
+            t: 0,
+        }
+    }
+}
+
+/// The lines of a catalogue.
+#[derive(Drop)]
+struct CatalogueLines {
+    asked: CatalogueNumbers,
+}
+
+impl Lines for CatalogueLines {
+    type Before = ();
+
+    ghost is_number = { λ x n. IsNumber x.asked.q x.asked.m x.asked.upto x.asked.nodes n };
+
+    ghost is_line = { λ x n given. given ≡ entry_output x.asked.nodes (entry_at x.asked.q x.asked.m x.asked.nodes n) };
+
+    ghost some = { λ x n is. entry_output x.asked.nodes (entry_at x.asked.q x.asked.m x.asked.nodes n) };
+
+    ghost some_line = { λ x n is. refl };
+
+    fn start(&self) {}
+
+    /// The book is let go before the next question is asked.
+    fn line<R: Threads + Sync>(
+        &self,
+        session: &Session<'_, R>,
+        n: u8,
+        _before: &mut (),
+    ) -> Result<ListedLine, NoMemory> {
+        let nodes = self.asked.nodes;
+        let shape = self.asked.shape(n);
+        let line = least_line(
+            session.rt,
+            session.alloc,
+            shape,
+            nodes,
+            session.threads,
+            &FreeGate,
+        )?;
+        let mut text = Bytes::new(session.alloc);
+        put_line(&mut text, n, &line, nodes)?;
+        Ok(ListedLine {
+            book: book_of(session, n, &line)?,
+            text,
+            status: line_status(&line),
+        })
+    }
+}
+
+/// Lists a catalogue: its head, and then a line for each number of factors, up to the first without a design.
 pub(crate) fn list_catalogue<R: Threads + Sync, K: Sink, F: Shelf>(
     session: &Session<'_, R>,
     asked: CatalogueNumbers,
@@ -55,70 +106,14 @@ pub(crate) fn list_catalogue<R: Threads + Sync, K: Sink, F: Shelf>(
         (sink_view K.Sink listing.old) (sink_view K.Sink listing.new)
         (shelf_view F.Shelf shelf.old) (shelf_view F.Shelf shelf.new) result }
 {
-    list_head(session.alloc, asked, listing)?;
-    let mut status = 0;
-    for s in asked.m + 1..asked.upto + 1 {
-        let ended = list_line(session, asked, s, listing, shelf)?;
-        status = worse(status, ended);
-        // With more factors there is none either.
-        if ended == NO_DESIGN {
-            return Ok(status);
-        }
-    }
-    Ok(status)
-}
-
-/// Lists the first line of a catalogue.
-fn list_head<K: Sink>(alloc: Global, asked: CatalogueNumbers, listing: &mut K) -> Result<u8, Stop>
-    requires { IsCatalogue asked.q asked.m asked.upto asked.nodes }
-    ensures { Lists (message (head_text asked.q asked.m) 0)
-        (sink_view K.Sink listing.old) (sink_view K.Sink listing.new) result }
-{
-    let shape = Shape {
-        q: asked.q,
-        m: asked.m,
-        s: asked.upto,
-        t: 0,
+    let mut head = Bytes::new(session.alloc);
+    put_head(&mut head, asked.shape(asked.upto))?;
+    let numbers = Numbers {
+        first: asked.m + 1,
+        last: asked.upto,
     };
-    let mut line = Bytes::new(alloc);
-    put_head(&mut line, shape)?;
-    list(listing, line.as_slice(), 0)
-}
-
-/// Lists the line for this number of factors, once its book is shelved, and returns its status. The book is let
-/// go before the next question is asked.
-fn list_line<R: Threads + Sync, K: Sink, F: Shelf>(
-    session: &Session<'_, R>,
-    asked: CatalogueNumbers,
-    s: u8,
-    listing: &mut K,
-    shelf: &mut F,
-) -> Result<u8, Stop>
-    requires numbers { IsCatalogue asked.q asked.m asked.upto asked.nodes }
-    requires factors { (asked.m < s) × (s ≤ asked.upto) }
-    requires ended { F.begun shelf.old ≡ false }
-    ensures { Writes (entry_output asked.nodes (entry_at asked.q asked.m asked.nodes s))
-        (sink_view K.Sink listing.old) (sink_view K.Sink listing.new)
-        (shelf_view F.Shelf shelf.old) (shelf_view F.Shelf shelf.new) result }
-{
-    let shape = Shape {
-        q: asked.q,
-        m: asked.m,
-        s,
-        t: 0,
-    };
-    let line = least_line(
-        session.rt,
-        session.alloc,
-        shape,
-        asked.nodes,
-        session.threads,
-        &FreeGate,
-    )?;
-    shelve_line(session, s, &line, shelf)?;
-    let mut text = Bytes::new(session.alloc);
-    put_line(&mut text, s, &line, asked.nodes)?;
-    list(listing, text.as_slice(), line_status(&line))
+    let lines = CatalogueLines { asked };
+    list_lines(session, head.as_slice(), &lines, numbers, listing, shelf)
 }
 
 /// The status of a line: 0 for a design, 1 for none, 2 where the budget ended.
@@ -133,17 +128,14 @@ fn line_status(line: &Line) -> u8
     }
 }
 
-/// Shelves the book of a line, where its question was finished.
-fn shelve_line<R: Threads + Sync, F: Shelf>(
+/// The file of the book of a line, where its question was finished.
+fn book_of<R: Threads + Sync>(
     session: &Session<'_, R>,
     factors: u8,
     line: &Line,
-    shelf: &mut F,
-) -> Result<(), Stop>
+) -> Result<Option<BookFile>, NoMemory>
     requires shaped { HasShapedBook line.now }
-    requires ended { F.begun shelf.old ≡ false }
-    ensures { ShelvesFiles (files_of factors line.now)
-        (shelf_view F.Shelf shelf.old) (shelf_view F.Shelf shelf.new) result }
+    ensures { IfOk result (λ file. (book_events file ≡ files_of factors line.now) × HasShortName file) }
 {
     match line {
         Line::Least {
@@ -151,33 +143,31 @@ fn shelve_line<R: Threads + Sync, F: Shelf>(
             pattern: _,
             nodes: _,
             book,
-        } => shelve_book(session, factors, book, shelf),
-        Line::Nothing { nodes: _, book } => shelve_book(session, factors, book, shelf),
-        Line::Budget => Ok(()),
+        } => Ok(Some(file_of(session, factors, book)?)),
+        Line::Nothing { nodes: _, book } => Ok(Some(file_of(session, factors, book)?)),
+        Line::Budget => Ok(None),
     }
 }
 
-/// Shelves the book of the line for this number of factors.
-fn shelve_book<R: Threads + Sync, F: Shelf>(
+/// The file of the book of the line for this number of factors.
+fn file_of<R: Threads + Sync>(
     session: &Session<'_, R>,
     factors: u8,
     book: &Book,
-    shelf: &mut F,
-) -> Result<(), Stop>
+) -> Result<BookFile, NoMemory>
     requires shaped { IsShape book.now.head.question.shape }
-    requires ended { F.begun shelf.old ≡ false }
-    ensures { ShelvesFiles (book_file factors book.now ∷ [])
-        (shelf_view F.Shelf shelf.old) (shelf_view F.Shelf shelf.new) result }
+    ensures { IfOk result (λ file. (book_events (Some file) ≡ book_file factors book.now ∷ []) × HasShortName (Some file)) }
 {
-    let name = book_name(factors);
-    let pieces = book_pieces(session.rt, session.alloc, book, session.threads)?;
-    shelve_pieces(shelf, name.as_slice(), pieces.as_slice())?;
-    Ok(())
+    Ok(BookFile {
+        name: book_name(factors),
+        pieces: book_pieces(session.rt, session.alloc, book, session.threads)?,
+    })
 }
 
 /// The name of the file of the book of the line for this number of factors.
 fn book_name(factors: u8) -> ArrayVec<u8, BOOK_NAME>
-    ensures { result.items ≡ book_name factors }
+    ensures name { result.items ≡ book_name factors }
+    ensures short { (1 ≤ length result.items) × (length result.items ≤ 64) }
 {
     let mut number = Buffer::new();
     let mut file = ArrayVec::new();

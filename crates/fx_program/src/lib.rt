@@ -8,6 +8,7 @@ mod files;
 mod fold;
 mod giving;
 mod judging;
+mod lister;
 mod listing;
 mod making;
 mod output_lines;

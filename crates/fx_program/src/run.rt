@@ -205,7 +205,7 @@ fn carry_out<R: Threads + Sync, S: Source, K: Sink, F: Shelf>(
                 let asked = CatalogueNumbers { q, m, upto, nodes };
                 list_catalogue(&session, asked, listing, shelf)
             }
-            Settings::Tables { asked } => list_table(alloc, asked, listing, shelf),
+            Settings::Tables { asked } => list_table(rt, alloc, asked, listing, shelf),
         },
         Err(fault) => list(listing, word_line(fault).as_slice(), REFUSED),
     }

@@ -3,16 +3,14 @@ ghost use Rattle.fx_table_book.specs.Tables.{IsBase};
 ghost use Rattle.fx_table_lines.specs.Listing.{order_text};
 ghost use Rattle.fx_program.specs.Tabulating.{book_name, groups_name, whole_name};
 
+use crate::lister::BOOK_NAME;
 use crate::words::append;
 use arrayvec::ArrayVec;
 use fx_table_book::{Base, Order};
 use itoa::Buffer;
 
-/// The room for the name of a book: `table-`, five numbers of at most 40 digits with signs between them, an order, and
+/// The name of the file of a book: `table-`, five numbers of at most 40 digits with signs between them, an order, and
 /// `.book`.
-const BOOK_NAME: usize = 256;
-
-/// The name of the file of a book.
 pub(crate) fn book_name(base: Base, order: Order) -> ArrayVec<u8, BOOK_NAME>
     requires { IsBase base }
     ensures { result.items ≡ book_name base order }

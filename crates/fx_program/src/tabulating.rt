@@ -1,26 +1,25 @@
-ghost use Rattle.std.specs.Prelude.{◌≡◌, ◌<◌, ◌≤◌, ◌^◌, ◌∷◌, ℕ, [], false, IfOk};
-ghost use Rattle.fx_program.specs.Output.{message, worse};
-ghost use Rattle.fx_program.specs.Outside.{Lists, ShelvesFiles, Writes, WritesSome, shelf_view, sink_view};
+ghost use Rattle.std.specs.Prelude.{◌≡◌, ◌<◌, ◌≤◌, ◌^◌, ◌∷◌, ℕ, [], false, None, Some, IfOk};
+ghost use Rattle.fx_program.specs.Listings.{HasShortName, book_events};
+ghost use Rattle.fx_program.specs.Outside.{WritesSome, shelf_view, sink_view};
 ghost use Rattle.fx_table_book.specs.Tables.{IsBase, IsProper};
 ghost use Rattle.fx_table_lines.specs.Lines.{Holds};
+ghost use Rattle.fx_table_lines.specs.declared.line.TableLine.TheVariants as line;
 ghost use Rattle.fx_program.specs.TableWords.{IsAsked, first_line};
-ghost use Rattle.fx_program.specs.Tabulating.{IsOfTable, book_file, files_of, line_output, line_status, table_head};
+ghost use Rattle.fx_program.specs.Tabulating.{IsGiven, IsNumber, IsOfTable, book_file, files_of, line_output, line_status, open_given};
 ghost use Rattle.fx_program.specs.Tables.{IsLine, IsReadable, IsShort, base_at};
 
-use crate::listing::list;
-use crate::status::worse;
+use crate::lister::{BookFile, Lines, ListedLine, NO_DESIGN, Numbers, list_lines};
+use crate::session::Session;
 use crate::stop::Stop;
 use crate::table_names::book_name;
 use crate::table_words::{AskedTable, first_line};
 use arrayvec::ArrayVec;
-use fx_base::{Bytes, NoMemory, Shelf, Sink, shelve};
+use fx_base::{Bytes, Items, NoMemory, Shelf, Sink};
 use fx_table_book::{Base, MOST_TABLE_BYTES, Order, TableBook, write_table_book};
 use fx_table_lines::{TableLine, put_head, put_line, table_line};
 use fx_vectors::MOST_FACTORS;
 use std::alloc::Global;
-
-/// The status of a line without a design.
-const NO_DESIGN: u8 = 1;
+use std::thread::Threads;
 
 /// No book has more entries.
 const MOST_ENTRIES: usize = 5_000_000;
@@ -28,10 +27,54 @@ const MOST_ENTRIES: usize = 5_000_000;
 /// The rows of a design.
 type Rows = ArrayVec<u16, MOST_FACTORS>;
 
+/// The lines of a table.
+#[derive(Drop)]
+struct TableLines {
+    asked: AskedTable,
+}
+
+impl Lines for TableLines {
+    /// The rows of the design of the line before, with which the search for the next begins.
+    type Before = Rows;
+
+    ghost is_number = { λ x n. IsNumber x.asked n };
+
+    ghost is_line = { λ x n given. IsGiven x.asked n given };
+
+    ghost some = { λ x n is. line_output (base_at x.asked n) x.asked.order (line.Open 0 None) };
+
+    ghost some_line = { λ x n is. open_given x.asked n };
+
+    fn start(&self) -> Rows {
+        Rows::new()
+    }
+
+    fn line<R: Threads + Sync>(
+        &self,
+        session: &Session<'_, R>,
+        n: u8,
+        before: &mut Rows,
+    ) -> Result<ListedLine, NoMemory> {
+        let alloc = session.alloc;
+        let asked = self.asked;
+        let base = base_at(asked, n);
+        let line = line_for(alloc, asked, n, before.as_slice())?;
+        let mut text = Bytes::new(alloc);
+        put_line(alloc, &mut text, base, asked.order, &line)?;
+        let listed = ListedLine {
+            book: book_of(alloc, base, asked.order, &line)?,
+            text,
+            status: line_status(&line),
+        };
+        *before = rows_of(line);
+        Ok(listed)
+    }
+}
+
 /// Lists a table: its head, and then a line for each number of factors outside the base, up to the first without a
-/// design. The search for each begins with the design of the line before. The book of a line is shelved before it is
-/// listed.
-pub(crate) fn list_table<K: Sink, F: Shelf>(
+/// design.
+pub(crate) fn list_table<R: Threads + Sync, K: Sink, F: Shelf>(
+    rt: &R,
     alloc: Global,
     asked: AskedTable,
     listing: &mut K,
@@ -43,32 +86,20 @@ pub(crate) fn list_table<K: Sink, F: Shelf>(
         (sink_view K.Sink listing.old) (sink_view K.Sink listing.new)
         (shelf_view F.Shelf shelf.old) (shelf_view F.Shelf shelf.new) result }
 {
-    list_head(alloc, asked, listing)?;
-    let mut status = 0;
-    let mut before = Rows::new();
-    for n in first_line(asked)..asked.upto + 1 {
-        let line = line_for(alloc, asked, n, before.as_slice())?;
-        let base = base_at(asked, n);
-        let ended = list_line(alloc, base, asked.order, &line, listing, shelf)?;
-        status = worse(status, ended);
-        // With more factors there is none either.
-        if ended == NO_DESIGN {
-            return Ok(status);
-        }
-        before = rows_of(line);
-    }
-    Ok(status)
-}
-
-/// Lists the first line of a table.
-fn list_head<K: Sink>(alloc: Global, asked: AskedTable, listing: &mut K) -> Result<u8, Stop>
-    requires { IsAsked asked }
-    ensures { Lists (message (table_head asked) 0)
-        (sink_view K.Sink listing.old) (sink_view K.Sink listing.new) result }
-{
-    let mut line = Bytes::new(alloc);
-    put_head(&mut line, base_at(asked, asked.upto), asked.order)?;
-    list(listing, line.as_slice(), 0)
+    let mut head = Bytes::new(alloc);
+    put_head(&mut head, base_at(asked, asked.upto), asked.order)?;
+    let session = Session {
+        rt,
+        alloc,
+        threads: 1,
+        seed: 0,
+    };
+    let numbers = Numbers {
+        first: first_line(asked),
+        last: asked.upto,
+    };
+    let lines = TableLines { asked };
+    list_lines(&session, head.as_slice(), &lines, numbers, listing, shelf)
 }
 
 /// Designs with n factors outside the base.
@@ -168,27 +199,6 @@ fn rows_of(line: TableLine) -> Rows {
     }
 }
 
-/// Lists a line, once its book is shelved, and returns its status.
-fn list_line<K: Sink, F: Shelf>(
-    alloc: Global,
-    base: Base,
-    order: Order,
-    line: &TableLine,
-    listing: &mut K,
-    shelf: &mut F,
-) -> Result<u8, Stop>
-    requires base { IsBase base }
-    requires ended { F.begun shelf.old ≡ false }
-    ensures { Writes (line_output base order line.now)
-        (sink_view K.Sink listing.old) (sink_view K.Sink listing.new)
-        (shelf_view F.Shelf shelf.old) (shelf_view F.Shelf shelf.new) result }
-{
-    shelve_line(alloc, base, order, line, shelf)?;
-    let mut text = Bytes::new(alloc);
-    put_line(alloc, &mut text, base, order, line)?;
-    list(listing, text.as_slice(), line_status(line))
-}
-
 /// The status of a line: 0 for a design, 1 for none, 2 where it is open.
 fn line_status(line: &TableLine) -> u8
     ensures status { result ≡ line_status line.now }
@@ -201,18 +211,15 @@ fn line_status(line: &TableLine) -> u8
     }
 }
 
-/// Shelves the book of a line that is not open.
-fn shelve_line<F: Shelf>(
+/// The file of the book of a line that is not open.
+fn book_of(
     alloc: Global,
     base: Base,
     order: Order,
     line: &TableLine,
-    shelf: &mut F,
-) -> Result<(), Stop>
-    requires base { IsBase base }
-    requires ended { F.begun shelf.old ≡ false }
-    ensures { ShelvesFiles (files_of base order line.now)
-        (shelf_view F.Shelf shelf.old) (shelf_view F.Shelf shelf.new) result }
+) -> Result<Option<BookFile>, NoMemory>
+    requires { IsBase base }
+    ensures { IfOk result (λ file. (book_events file ≡ files_of base order line.now) × HasShortName file) }
 {
     match line {
         TableLine::Least {
@@ -220,31 +227,26 @@ fn shelve_line<F: Shelf>(
             rules: _,
             key: _,
             book,
-        } => shelve_book(alloc, base, order, book, shelf),
-        TableLine::Nothing { book } => shelve_book(alloc, base, order, book, shelf),
+        } => Ok(Some(file_of(alloc, base, order, book)?)),
+        TableLine::Nothing { book } => Ok(Some(file_of(alloc, base, order, book)?)),
         TableLine::Open {
             entries: _,
             rows: _,
-        } => Ok(()),
+        } => Ok(None),
     }
 }
 
-/// Shelves the book of a line.
-fn shelve_book<F: Shelf>(
-    alloc: Global,
-    base: Base,
-    order: Order,
-    book: &TableBook,
-    shelf: &mut F,
-) -> Result<(), Stop>
-    requires base { IsBase base }
-    requires ended { F.begun shelf.old ≡ false }
-    ensures { ShelvesFiles (book_file base order book.now ∷ [])
-        (shelf_view F.Shelf shelf.old) (shelf_view F.Shelf shelf.new) result }
+/// The file of the book of a line.
+fn file_of(alloc: Global, base: Base, order: Order, book: &TableBook) -> Result<BookFile, NoMemory>
+    requires { IsBase base }
+    ensures { IfOk result (λ file. (book_events (Some file) ≡ book_file base order book.now ∷ []) × HasShortName (Some file)) }
 {
-    let name = book_name(base, order);
     let mut text = Bytes::new(alloc);
     write_table_book(book, &mut text)?;
-    shelve(shelf, name.as_slice(), text.as_slice())?;
-    Ok(())
+    let mut pieces = Items::new(alloc);
+    pieces.push(text)?;
+    Ok(BookFile {
+        name: book_name(base, order),
+        pieces,
+    })
 }
