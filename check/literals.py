@@ -108,7 +108,7 @@ LIMITS = [
     ("fx_judge/src/name.rt", "> 32", ("judge", "A2345678901234567890123456789012\\n"), ("judge", "A23456789012345678901234567890123\\n")),
     ("fx_judge/src/reading.rt", "first > 40", ("judge", "alloc, 40)"), ("judge", "alloc, 41)")),
     ("fx_judge/src/reading.rt", "> 300", ("judge", "alloc, 24)"), ("judge", "alloc, 25)")),
-    ("fx_judge/src/reading.rt", "number == 4098", ("judge", "for _i in 0..4096 "), ("judge", "TooManyRuns, 4098")),
+    ("fx_judge/src/reading.rt", "number == 4098", ("judge", "for _i in 0..4096 "), ("judge", "7, 4098")),
     ("fx_program/src/text.rt", "TEXT_LIMIT: usize = 1048576", ("program", "1_048_576 - HALF.len()"), ("program", "1_048_577 - HALF.len()")),
     ("fx_program/src/judging.rt", "PLAN_LIMIT: usize = 1048576", ("program", "1..131072 "), ("program", "J1 record 1")),
     ("fx_program/src/catalogue_words.rt", "USUAL_NODES: u64 = 1000000", ("catalogues", '"catalogue 2 10 63", (2, 10, 63, 1, 1_000_000)'), None),
